@@ -1,0 +1,11 @@
+pub mod Coding
+pub mod Falls
+pub mod Fitting
+pub mod Frames
+pub mod Laws
+pub mod Numbered
+pub mod Scope
+pub mod Signature
+pub mod Substitution
+pub mod Tree
+pub mod View

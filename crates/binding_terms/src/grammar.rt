@@ -1,0 +1,99 @@
+ghost use Rattle.std.specs.Prelude.{◌≡◌, slice_index, slice_get};
+ghost use Rattle.std.specs.Option.{option_copied};
+ghost use Rattle.binding_terms.specs.Signature.{Fits, binders};
+
+use crate::text::Text;
+use sqlite_items::{Items, at};
+use std::marker::Model;
+
+#[derive(Clone, Copy, Debug, PartialEq, Eq)]
+pub struct CatId(pub u32);
+
+#[derive(Clone, Copy, Debug, PartialEq, Eq)]
+pub struct ProdId(pub u32);
+
+/// A category: its name, its variable's name, and whether it is a category of contexts.
+#[derive(Debug, Drop)]
+pub struct Cat {
+    pub name: Text,
+    pub var: Option<Text>,
+    pub context: bool,
+}
+
+/// An item of a production. A slot lists the binders that it is under by their number in the production.
+#[derive(Debug, Drop)]
+pub enum Item {
+    Word { text: Text, quoted: bool },
+    Slot { cat: CatId, binds: Items<u32> },
+    Binder(CatId),
+}
+
+#[derive(Debug, Drop)]
+pub struct Prod {
+    pub cat: CatId,
+    pub items: Items<Item>,
+}
+
+/// A signature, whose productions fit its categories.
+#[derive(Drop)]
+pub struct Sig {
+    cats: Vec<Cat>,
+    prods: Vec<Prod>,
+}
+
+impl Model for Sig {
+    ghost use Rattle.binding_terms.specs.Signature.{Signature, Fits};
+
+    ghost Value = { Signature };
+
+    ghost view = { λ s. record { cats = s.cats.items; prods = s.prods.items } };
+
+    ghost invariant = { λ s. Fits (record { cats = s.cats.items; prods = s.prods.items }) };
+}
+
+impl Sig {
+    pub fn make(cats: Vec<Cat>, prods: Vec<Prod>) -> Sig
+        requires { Fits (record { cats = cats.items; prods = prods.items }) }
+        ensures cats { result.cats ≡ cats.items }
+        ensures prods { result.prods ≡ prods.items }
+    {
+        Sig { cats, prods }
+    }
+
+    pub fn cats(&self) -> &Vec<Cat>
+        ensures { result.now.items ≡ self.now.cats }
+    {
+        &self.cats
+    }
+
+    pub fn prods(&self) -> &Vec<Prod>
+        ensures { result.now.items ≡ self.now.prods }
+    {
+        &self.prods
+    }
+}
+
+impl Sig {
+    /// The production of that number.
+    pub fn prod(&self, id: ProdId) -> Option<&Prod>
+        ensures { option_copied result ≡ slice_get self.now.prods id.0 }
+    {
+        at(self.prods.as_slice(), id.0 as usize)
+    }
+}
+
+/// The category of a binder, by its number in the production, or category 0 where it has none.
+pub fn binder_at(items: &[Item], number: u32) -> CatId
+    ensures { result.0 ≡ slice_index (binders items.now) number }
+{
+    let mut left = number;
+    for item in items {
+        if let Item::Binder(cat) = item {
+            if left == 0 {
+                return *cat;
+            }
+            left -= 1;
+        }
+    }
+    CatId(0)
+}

@@ -1,0 +1,15 @@
+//! Files to read and a sink to write to, as traits that say what the outside may do, and objects that meet them.
+#![tactic(auto)]
+
+mod fault;
+mod host;
+mod memory;
+mod outside;
+mod steady;
+
+pub use fault::Span;
+pub use host::{HostFiles, StdSink};
+pub use memory::{CutPut, MemFile, MemFiles, MemSink};
+pub use outside::{Files, ReadAnswer, Sink, SinkAnswer};
+pub use steady::{SteadyFiles, SteadySink};
+pub use binding_terms::{NoMemory, Text};
