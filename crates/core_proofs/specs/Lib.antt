@@ -1,0 +1,5 @@
+pub mod RuleStep
+pub mod Step
+pub mod Proof
+pub mod Value
+pub mod View

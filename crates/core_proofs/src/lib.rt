@@ -1,0 +1,6 @@
+//! Proofs whose every kept step is right.
+#![tactic(auto)]
+
+mod step;
+
+pub use step::{CoreStep, StepId};
