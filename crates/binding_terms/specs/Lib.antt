@@ -1,6 +1,6 @@
 pub mod Coding
+pub mod Draft
 pub mod Falls
-pub mod Fitting
 pub mod Frames
 pub mod Laws
 pub mod Numbered

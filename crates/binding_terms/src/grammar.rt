@@ -1,9 +1,11 @@
-ghost use Rattle.std.specs.Prelude.{◌≡◌, slice_index, slice_get};
+ghost use Rattle.std.specs.Prelude.{◌≡◌, ◌↔◌, IfOk, IsTrue, slice_get, slice_index};
 ghost use Rattle.std.specs.Option.{option_copied};
 ghost use Rattle.binding_terms.specs.Signature.{Fits, binders};
 
-use crate::text::Text;
+use crate::fitting::Draft;
+use crate::text::{NoMemory, Text};
 use sqlite_items::{Items, at};
+use std::alloc::Global;
 use std::marker::Model;
 
 #[derive(Clone, Copy, Debug, PartialEq, Eq)]
@@ -52,12 +54,24 @@ impl Model for Sig {
 }
 
 impl Sig {
-    pub fn make(cats: Vec<Cat>, prods: Vec<Prod>) -> Sig
-        requires { Fits (record { cats = cats.items; prods = prods.items }) }
-        ensures cats { result.cats ≡ cats.items }
-        ensures prods { result.prods ≡ prods.items }
+    /// Whether the categories and productions make a signature.
+    pub fn fits(cats: &Vec<Cat>, prods: &Vec<Prod>) -> bool
+        ensures { IsTrue result ↔ Fits (record { cats = cats.now.items; prods = prods.now.items }) }
     {
-        Sig { cats, prods }
+        let draft = Draft {
+            cats: cats.as_slice(),
+            prods: prods.as_slice(),
+        };
+        draft.fits()
+    }
+
+    /// The signature of categories and productions that fit.
+    pub fn make(_alloc: Global, cats: Vec<Cat>, prods: Vec<Prod>) -> Result<Sig, NoMemory>
+        requires { Fits (record { cats = cats.items; prods = prods.items }) }
+        ensures cats { IfOk result (λ sig. sig.cats ≡ cats.items) }
+        ensures prods { IfOk result (λ sig. sig.prods ≡ prods.items) }
+    {
+        Ok(Sig { cats, prods })
     }
 
     pub fn cats(&self) -> &Vec<Cat>

@@ -1,6 +1,6 @@
 use Rattle.std.proofs.Common.{◌↔◌, drop}
-use Rattle.binding_terms.specs.Fitting.{AllDifferent}
+use Rattle.binding_terms.specs.Numbered.{AreDifferent}
 use Rattle.binding_terms.proofs.fitting.are_different.Given as goal
 
 abbrev pub invariant-loop-i : goal.invariant-loop-i
-invariant-loop-i l = AllDifferent l.numbers ↔ AllDifferent (drop l.i l.numbers)
+invariant-loop-i l = AreDifferent l.numbers ↔ AreDifferent (drop l.i l.numbers)
