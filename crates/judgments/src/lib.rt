@@ -1,0 +1,2 @@
+//! The rules and statements of a file.
+#![tactic(auto)]
