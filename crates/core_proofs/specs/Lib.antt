@@ -1,3 +1,4 @@
+pub mod Renumbered
 pub mod RuleStep
 pub mod Step
 pub mod Proof
