@@ -1,0 +1,10 @@
+//! What instances and substitutions keep, and how one goes after another. The functions do nothing: their contracts are the laws.
+
+ghost use Rattle.scheme_terms.specs.Laws.{InstanceOfApplied, InstanceOfAppliedScheme, InstanceKeepsScope, InstanceKeepsScopeOfMetas, StrictAgreement};
+
+/// The instance of a scheme in which schemes were put in.
+#[tactic(auto, using(crate::proofs::Followed::instance_of_applied, crate::proofs::Followed::instance_of_applied_scheme))]
+pub fn instance_of_applied()
+    ensures at_any_depth { InstanceOfApplied }
+    ensures in_scope { InstanceOfAppliedScheme }
+{}
