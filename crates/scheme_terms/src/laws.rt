@@ -8,3 +8,10 @@ pub fn instance_of_applied()
     ensures at_any_depth { InstanceOfApplied }
     ensures in_scope { InstanceOfAppliedScheme }
 {}
+
+/// The instance of a scheme is a term of its category.
+#[tactic(auto, using(crate::proofs::InstanceScopes::instance_keeps_scope, crate::proofs::InstanceScopes::instance_keeps_scope_of_metas))]
+pub fn instance_keeps_scope()
+    ensures keeps { InstanceKeepsScope }
+    ensures of_metas { InstanceKeepsScopeOfMetas }
+{}
