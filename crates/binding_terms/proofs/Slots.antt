@@ -13,7 +13,7 @@ module _ (items : List Item) (i : ℕ) (item : Item) (within : i < length items)
       → AllByRecursion P (slots (drop i items)) ↔ AllByRecursion P (slots (drop (i + 1) items))
   slots_more P cat binds is here =
       let next : drop i items ≡ Slot cat binds ∷ drop (i + 1) items =
-        drop_more items i item within ∙ ap (λ x. x ∷ drop (i + 1) items) (sym at ∙ is) in
+      drop_more items i item within ∙ ap (λ x. x ∷ drop (i + 1) items) (sym at ∙ is) in
       rw next (λ h. h.1, λ h. (here, h))
 
   -- where it is none, the slots are those after it

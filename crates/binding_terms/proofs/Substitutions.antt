@@ -5,7 +5,7 @@ use Rattle.std.proofs.lemmas.Bool.Decides.{nat_tests}
 use Rattle.binding_terms.specs.Tree.{Tree, var, con, Args, no_args, arg, raised, shifted, shifted_args, put_var, put_in, put_in_args}
 use Rattle.binding_terms.specs.Substitution.{under, filled, filled_args}
 use Rattle.binding_terms.proofs.Filling.{under_at, under_past}
-use Rattle.binding_terms.proofs.Laws.{shifted_shifted, put_below, put_here, put_above}
+use Rattle.binding_terms.proofs.Puts.{shifted_shifted, put_below, put_here, put_above}
 
 raised_past : (c m n i : ℕ) → m ≤ i → raised (c + m) n i ≡ raised c n (i - m) + m
 raised_past c m n i h = grind (arith, nat_tests)

@@ -94,7 +94,7 @@ impl<'a> Draft<'a> {
     fn has_form(&self, prod: &Prod) -> bool
         ensures { IsTrue result ↔ MatchOption (slice_get self.now.cats.now prod.now.cat.0) ⊥
             (λ cat. MatchBool cat.context (IsContextForm (drafted self.now) prod.now)
-                (AllByRecursion (λ s. IsPlain (drafted self.now) s.cat) (slots prod.now.items))) }
+            (AllByRecursion (λ s. IsPlain (drafted self.now) s.cat) (slots prod.now.items))) }
     {
         match at(self.cats, prod.cat.0 as usize) {
             Some(cat) => {

@@ -1,6 +1,5 @@
 ghost use Rattle.std.specs.Prelude.{◌≡◌, ◌↔◌, ◌^◌, ◌-◌, ◌≤◌, IsTrue, IfOk, min};
 ghost use Rattle.binding_terms.specs.View.{tree, arg_tree, args_tree};
-ghost use Rattle.binding_terms.specs.Laws.{PutShifts, PutPuts};
 ghost use Rattle.binding_terms.specs.Tree.{nodes, arg_nodes, shifted, shifted_args, put_in, put_in_args, free, free_args, Bounds};
 
 use crate::grammar::ProdId;
@@ -106,8 +105,8 @@ fn size_all(args: &[Arg]) -> u64
     total
 }
 
-/// The same term again.
-pub fn copy(t: &Term) -> Result<Term, NoMemory>
+/// The same term again, which shares its arguments with the first.
+pub fn copy(_alloc: Global, t: &Term) -> Result<Term, NoMemory>
     ensures { IfOk result (λ new. tree new ≡ tree t.now) }
 {
     match t {
@@ -282,7 +281,7 @@ pub fn put(alloc: Global, t: &Term, at: usize, with: &Term) -> Result<Term, NoMe
             if *i < at {
                 Ok(Term::Var(*i))
             } else if *i == at {
-                copy(with)
+                copy(alloc, with)
             } else {
                 Ok(Term::Var(*i - 1))
             }
@@ -313,10 +312,3 @@ fn put_all(alloc: Global, args: &[Arg], at: usize, with: &Term) -> Result<ArgLis
     }
     ArgList::make(alloc, all)
 }
-
-/// How putting in and raising go together.
-#[tactic(auto, using(crate::proofs::Laws::laws))]
-pub fn laws()
-    ensures lost { PutShifts }
-    ensures in_turn { PutPuts }
-{}

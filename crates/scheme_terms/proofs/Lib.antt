@@ -1,1 +1,10 @@
+pub mod AppliedInstances
+pub mod Arguments
+pub mod Followed
+pub mod InstanceScopes
 pub mod Lists
+pub mod Options
+pub mod RaisedInstances
+pub mod SchemeFacts
+pub mod TermScopes
+pub mod Values

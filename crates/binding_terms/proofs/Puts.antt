@@ -123,5 +123,8 @@ mutual
       ∙ ap (λ w. put_in (j + m) (shifted 0 m (put_in a v u)) (put_in (e + m) w t)) high)
       ∙ ap (arg m (put_in (j + m) (shifted 0 m (put_in a v u)) (put_in (e + m) (shifted 0 m (shifted j 1 v)) t))) (put_put_args j a e h k v u xs)
 
-pub laws : PutShifts × PutPuts
-laws = (λ t u a. put_shifted a u t, λ t u v a. put_put 0 a (a + 1) (omega arith) refl v u t)
+pub put_shifts : PutShifts
+put_shifts t u a = put_shifted a u t
+
+pub put_puts : PutPuts
+put_puts t u v a = put_put 0 a (a + 1) (omega arith) refl v u t

@@ -1,0 +1,42 @@
+-- What instances and substitutions keep, and how one goes after another.
+use Rattle.std.specs.Prelude.{◌≡◌, ℕ, List, [], ◌++◌, length}
+use Rattle.binding_terms.specs.Signature.{Signature, Fits}
+use Rattle.binding_terms.specs.Scope.{IsTerm}
+use Rattle.scheme_terms.specs.SchemeTree.{SchemeTree, StrictIn}
+use Rattle.scheme_terms.specs.Forms.{Names, Substitution, Instance}
+use Rattle.scheme_terms.specs.Context.{scope_of}
+use Rattle.scheme_terms.specs.Instance.{instance_of, value_of, FitsScope}
+use Rattle.scheme_terms.specs.SchemeScope.{IsScheme, IsRoot}
+use Rattle.scheme_terms.specs.Substituting.{applied, followed, Suits, IsSaturated, LocalsBelow, IsSubstitution}
+use Rattle.scheme_terms.specs.declared.scheme.MetaDecl.{MetaDecl}
+
+-- the instance of a scheme in which schemes were put in is the instance of the scheme under the substitution followed by the instance
+abbrev pub InstanceOfApplied : Type 0
+InstanceOfApplied =
+    (metas : List MetaDecl) (by : Substitution) (inst : Instance) (d : ℕ) (s : SchemeTree) → IsSaturated metas s → Suits by.metas by.knowns s →
+    instance_of inst d (applied by.metas by.knowns d s) ≡ instance_of (followed metas by inst) d s
+
+-- the same of a scheme of a scope, under locals
+abbrev pub InstanceOfAppliedScheme : Type 0
+InstanceOfAppliedScheme =
+    (sig : Signature) (scope : Names) (by : Substitution) (inst : Instance) (locals : List ℕ) (c : ℕ) (s : SchemeTree) →
+    IsSubstitution sig scope by → IsScheme sig scope locals c s →
+    instance_of inst (length locals) (applied by.metas by.knowns (length locals) s) ≡ instance_of (followed scope.metas by inst) (length locals) s
+
+-- the instance of a scheme of a category is a term of the category, in the scope of the root's variables and the scheme's locals
+abbrev pub InstanceKeepsScope : Type 0
+InstanceKeepsScope =
+    (sig : Signature) (scope : Names) (inst : Instance) (locals : List ℕ) (c : ℕ) (s : SchemeTree) → Fits sig → IsRoot sig scope.root →
+    FitsScope sig scope inst → IsScheme sig scope locals c s → IsTerm sig (locals ++ scope_of sig inst.root) c (instance_of inst (length locals) s)
+
+-- the same in a scope without known variables, over any signature
+abbrev pub InstanceKeepsScopeOfMetas : Type 0
+InstanceKeepsScopeOfMetas =
+    (sig : Signature) (scope : Names) (inst : Instance) (locals : List ℕ) (c : ℕ) (s : SchemeTree) → scope.knowns ≡ [] →
+    FitsScope sig scope inst → IsScheme sig scope locals c s → IsTerm sig (locals ++ scope_of sig inst.root) c (instance_of inst (length locals) s)
+
+-- two instances that give a scheme the same instance give a metavariable with a strict occurrence in it the same value
+abbrev pub StrictAgreement : Type 0
+StrictAgreement =
+    (first second : Instance) (d m : ℕ) (s : SchemeTree) → LocalsBelow d s → StrictIn m s →
+    instance_of first d s ≡ instance_of second d s → value_of first m ≡ value_of second m

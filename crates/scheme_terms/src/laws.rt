@@ -1,0 +1,17 @@
+//! What instances and substitutions keep, and how one goes after another. The functions do nothing: their contracts are the laws.
+
+ghost use Rattle.scheme_terms.specs.Laws.{InstanceOfApplied, InstanceOfAppliedScheme, InstanceKeepsScope, InstanceKeepsScopeOfMetas, StrictAgreement};
+
+/// The instance of a scheme in which schemes were put in.
+#[tactic(auto, using(crate::proofs::Followed::instance_of_applied, crate::proofs::Followed::instance_of_applied_scheme))]
+pub fn instance_of_applied()
+    ensures at_any_depth { InstanceOfApplied }
+    ensures in_scope { InstanceOfAppliedScheme }
+{}
+
+/// The instance of a scheme is a term of its category.
+#[tactic(auto, using(crate::proofs::InstanceScopes::instance_keeps_scope, crate::proofs::InstanceScopes::instance_keeps_scope_of_metas))]
+pub fn instance_keeps_scope()
+    ensures keeps { InstanceKeepsScope }
+    ensures of_metas { InstanceKeepsScopeOfMetas }
+{}
