@@ -4,3 +4,4 @@ pub mod Step
 pub mod Proof
 pub mod Value
 pub mod View
+pub mod Laws

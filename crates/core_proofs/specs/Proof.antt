@@ -3,12 +3,12 @@ use Rattle.std.specs.Prelude.{◌≡◌, ◌≤◌, ℕ, zero, suc, List, [], �
 use Rattle.binding_terms.specs.Numbered.{AllNumbered}
 use Rattle.scheme_terms.specs.SchemeTree.{SchemeTree, meta, local, values}
 use Rattle.scheme_terms.specs.Forms.{Names, Substitution}
-use Rattle.scheme_terms.specs.Substituting.{IsSubstitution}
+use Rattle.scheme_terms.specs.Substituting.{applied, IsSubstitution}
 use Rattle.scheme_terms.specs.SchemeScope.{StandsWith}
 use Rattle.scheme_terms.specs.declared.scheme.MetaDecl.{MetaDecl}
 use Rattle.rule_schemes.specs.Rules.{JudgmentScheme, Rule, Theory, IsJudgmentScheme, MayStand, ENTRIES}
 use Rattle.rule_schemes.specs.Statement.{StatementInput, given, syntax_input, Theorem, IsOfInputs}
-use Rattle.core_proofs.specs.RuleStep.{applied_judgment, IsRuleInstance, AreCited}
+use Rattle.core_proofs.specs.RuleStep.{applied_entries, IsRuleInstance, AreCited}
 use Rattle.core_proofs.specs.Step.{Step, begin_theorem, end_theorem, by_rule}
 
 -- the scope in which a proof begins: its statement's without the further metavariables of the conclusion, which stand last there
@@ -27,6 +27,15 @@ own_params (suc n) = local n ∷ own_params n
 
 abbrev pub itself : (number : ℕ) → MetaDecl → SchemeTree
 itself m decl = meta m (values (own_params (length decl.params)))
+
+-- a conclusion with schemes for its names
+abbrev pub applied_judgment : Substitution → JudgmentScheme → JudgmentScheme
+applied_judgment by j =
+    record {
+      judgment = j.judgment;
+      context = record { root = j.context.root; entries = applied_entries by 0 j.context.entries };
+      args = map (applied by.metas by.knowns (length j.context.entries)) j.args;
+    }
 
 -- A form has the goal: one substitution of the goal's own names by schemes of the scope makes the conclusion the form.
 pub record HasGoal (th : Theory) (st : Theorem) (scope : Names) (form : JudgmentScheme) : Type 0 where

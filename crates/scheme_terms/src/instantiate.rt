@@ -17,7 +17,7 @@ fn raise(alloc: Global, term: &Term, by: usize) -> Result<Term, NoMemory>
     ensures { IfOk result (λ new. tree new ≡ shifted 0 by (tree term.now)) }
 {
     if by == 0 {
-        return copy(term);
+        return copy(alloc, term);
     }
     shift(alloc, term, 0, by)
 }
