@@ -6,5 +6,6 @@ pub mod Lists
 pub mod Options
 pub mod RaisedInstances
 pub mod SchemeFacts
+pub mod StrictAgreements
 pub mod TermScopes
 pub mod Values

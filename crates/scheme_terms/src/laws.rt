@@ -15,3 +15,9 @@ pub fn instance_keeps_scope()
     ensures keeps { InstanceKeepsScope }
     ensures of_metas { InstanceKeepsScopeOfMetas }
 {}
+
+/// Two instances that give a scheme the same instance give the same value to a metavariable with a strict occurrence in it.
+#[tactic(auto, using(crate::proofs::StrictAgreements::strict_agreement))]
+pub fn strict_agreement()
+    ensures { StrictAgreement }
+{}
