@@ -7,7 +7,7 @@ use Rattle.binding_terms.specs.Scope.{bound, IsTerm, AreParts}
 use Rattle.binding_terms.specs.Substitution.{under, filled, filled_args}
 use Rattle.binding_terms.proofs.Frames.{append_within, append_beyond}
 use Rattle.binding_terms.proofs.Filling.{under_at, under_past}
-use Rattle.binding_terms.proofs.Scopes.{match_map, shifted_term}
+use Rattle.binding_terms.proofs.Scopes.{match_map, IsTerm-shift}
 use Rattle.scheme_terms.proofs.SchemeFacts.{length_bound}
 
 -- terms of the scope's categories are put in for its variables
@@ -24,7 +24,7 @@ Fills-under sig own from to f fills i cat is = at (cases_lt i (length own))
         (append_within own to i h ∙ sym (append_within own from i h) ∙ is)
     at (inr h) =
         let there : IsTerm sig to cat (f (i - length own)) = fills (i - length own) cat (sym (append_beyond own from i h) ∙ is) in
-        subst (IsTerm sig (own ++ to) cat) (sym (under_past (length own) f i h)) (shifted_term sig own to [] cat (f (i - length own)) there)
+        subst (IsTerm sig (own ++ to) cat) (sym (under_past (length own) f i h)) (IsTerm-shift sig own to [] cat (f (i - length own)) there)
 
 module _ (sig : Signature) where
   mutual
