@@ -1,1 +1,3 @@
+pub mod ClosedForms
 pub mod Renumbering
+pub mod RuleSteps
