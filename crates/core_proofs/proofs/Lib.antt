@@ -1,3 +1,4 @@
 pub mod ClosedForms
+pub mod Made
 pub mod Renumbering
 pub mod RuleSteps

@@ -25,10 +25,10 @@ given_trees (term t ∷ xs) = given_trees xs
 -- What the steps of a proof make, with an instance of its scope and a derivation for each step in scope: by a rule, the node with the
 -- form's instance over the cited derivations; at the end the last step's.
 pub data Makes (inst : Instance) : List Derivation → List Step → Derivation → Type 0 where
-  by_a_rule : {line r : ℕ} {on : List ℕ} {scoped : List Derivation} (cited : List Derivation) {steps : List Step} {made : Derivation} {form : JudgmentScheme} →
+  makes_node : {line r : ℕ} {on : List ℕ} {scoped : List Derivation} (cited : List Derivation) {steps : List Step} {made : Derivation} {form : JudgmentScheme} →
       AreCitedTrees scoped on cited → Makes inst (scoped ++ node r (judgment_instance inst form) (subtrees cited) ∷ []) steps made →
       Makes inst scoped (by_rule line form r on ∷ steps) made
-  at_end : {line : ℕ} {scoped : List Derivation} {steps : List Step} {last : Derivation} →
+  makes_last : {line : ℕ} {scoped : List Derivation} {steps : List Step} {last : Derivation} →
       (before : List Derivation) → scoped ≡ before ++ last ∷ [] → Makes inst scoped (end_theorem line ∷ steps) last
 
 -- the value of a theorem on inputs in a context value: what its proof makes, with the instance that the inputs give
