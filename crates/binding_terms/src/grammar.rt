@@ -94,6 +94,13 @@ impl Sig {
     {
         at(self.prods.as_slice(), id.0 as usize)
     }
+
+    /// Tells a caller's proof what each signature is: of the stated form.
+    pub fn always_fits(&self)
+        ensures { Fits self.now }
+    {
+        let _ = &self.prods;
+    }
 }
 
 /// The category of a binder, by its number in the production, or category 0 where it has none.

@@ -1,0 +1,143 @@
+-- Over a theory without contexts a rule has a good conclusion, each premise may stand in it, and it is no assumption rule.
+use Rattle.std.proofs.Common.{◌≡◌, ◌↔◌, ℕ, zero, suc, ◌+◌, List, [], ◌∷◌, ◌++◌, ◌∙◌, length, inl, inr, refl, ap, subst, sym, true≢false, arith}
+use Rattle.std.specs.Prelude.{Option, Some, None, true, false, slice_get, MatchOption, count_by, ◌==◌}
+use Rattle.std.proofs.lemmas.List.{append-nil}
+use Rattle.std.specs.List.{AllByRecursion}
+use Rattle.binding_terms.specs.Numbered.{AnyByRecursion, AllNumbered, AreDifferent}
+use Rattle.binding_terms.specs.Signature.{Signature, IsContext, slots}
+use Rattle.binding_terms.specs.declared.grammar.Cat.{Cat}
+use Rattle.binding_terms.specs.declared.grammar.CatId.{CatId}
+use Rattle.scheme_terms.specs.Forms.{SchemeEntry, SchemeContext}
+use Rattle.scheme_terms.specs.SchemeScope.{IsSchemeContext}
+use Rattle.scheme_terms.specs.declared.scheme.Root.{Root}
+use Rattle.scheme_terms.specs.declared.scheme.Root.TheVariants.{Closed, Empty, Whole}
+use Rattle.rule_schemes.specs.declared.rule.Judgment.{Judgment}
+use Rattle.rule_schemes.specs.Rules.{JudgmentScheme, Rule, Theory, JudgmentFits, IsRootOf, IsBareName, IsBare, HasForms, RuleFits, HasGoodConclusion, MayStand, NeedsNoContext, IsSystemSoFar, IsSystem, assumed_by, assumed, rule_names}
+use Rattle.rule_schemes.specs.Plain.{IsPlainSignature, HasPlainNames, IsPlainTheory, IsPlainSystem}
+use Rattle.rule_schemes.specs.Refused.{IsFirstMisplaced, with_rule, AssumeAlike, AllStrict}
+
+pub AllByRecursion-map : {A : Type 0} {P Q : A → Type 0} → ((x : A) → P x → Q x) → (xs : List A) → AllByRecursion P xs → AllByRecursion Q xs
+AllByRecursion-map f [] all = tt
+AllByRecursion-map f (x ∷ xs) all = (f x all.0, AllByRecursion-map f xs all.1)
+
+pub AllByRecursion-append : {A : Type 0} (P : A → Type 0) (xs : List A) (x : A) → AllByRecursion P xs → P x → AllByRecursion P (xs ++ x ∷ [])
+AllByRecursion-append P [] x all here = (here, tt)
+AllByRecursion-append P (y ∷ ys) x all here = (all.0, AllByRecursion-append P ys x all.1 here)
+
+-- no category is one of contexts
+no_context : (cats : List Cat) (c : ℕ) → AllByRecursion (λ cat. cat.context ≡ false) cats
+    → MatchOption (slice_get cats c) ⊥ (λ cat. cat.context ≡ true) → ⊥
+no_context [] c all h = h
+no_context (cat ∷ cats) zero all h = absurd (true≢false (sym h ∙ all.0))
+no_context (cat ∷ cats) (suc c) all h = no_context cats c all.1 h
+
+no_context_assumed : (sig : Signature) (Rest : CatId → Type 0) (ctx : Option CatId) → IsPlainSignature sig
+    → MatchOption ctx (Unit {0}) (λ c. IsContext sig c.0 × Rest c) → ctx ≡ None
+no_context_assumed sig Rest None plain h = refl
+no_context_assumed sig Rest (Some c) plain h = absurd (no_context sig.cats c.0 plain.no_context h.0)
+
+-- what a form of a judgment without a context has
+pub record IsClosedForm (context : SchemeContext) : Type 0 where
+  pub root : context.root ≡ Closed
+  pub entries : context.entries ≡ []
+
+found : {A : Type 0} {P Q : A → Type 0} → (xs : List A) (n : ℕ) → AllByRecursion P xs → MatchOption (slice_get xs n) ⊥ Q → (x : A) × P x × Q x
+found [] n all h = absurd h
+found (x ∷ xs) zero all h = (x, all.0, h)
+found (x ∷ xs) (suc n) all h = found xs n all.1 h
+
+is_closed : (root : Root) → IsRootOf None root → root ≡ Closed
+is_closed Closed h = refl
+is_closed (Empty c) h = absurd h
+is_closed (Whole c) h = absurd h
+
+pub closed_form : (th : Theory) (r : Rule) → IsPlainSignature th.sig → AllByRecursion (JudgmentFits th.sig) th.judgments → HasForms th r
+    → IsClosedForm r.conclusion.context
+closed_form th r plain fit forms =
+    let form = found th.judgments r.conclusion.judgment fit forms.conclusion in
+    let none : form.0.ctx ≡ None = no_context_assumed th.sig (λ c. count_by (λ slot. slot.cat == c.0) (slots form.0.items) ≡ 1) form.0.ctx plain form.1.assumed in
+    let root : r.conclusion.context.root ≡ Closed =
+        is_closed r.conclusion.context.root (subst (λ (ctx : Option CatId). IsRootOf ctx r.conclusion.context.root) none form.2.0) in
+    record {
+      root = root;
+      entries = subst (λ (x : Root). IsSchemeContext th.sig (rule_names r) (record { root = x; entries = r.conclusion.context.entries })) root form.2.1;
+    }
+
+pub closed_good : (r : Rule) → IsClosedForm r.conclusion.context → HasGoodConclusion r
+closed_good r c =
+    inl (subst (λ (x : Root). IsBareName x r.conclusion.context.entries) (sym c.root)
+    (subst (λ (es : List SchemeEntry). IsBareName Closed es) (sym c.entries) tt))
+
+may_stand : (th : Theory) (root form : Root) (j : ℕ) → root ≡ Closed → MayStand th root form j
+may_stand th root form j e = subst (λ (x : Root). MayStand th x form j) (sym e) tt
+
+pub closed_placed : (th : Theory) (root : Root) (ps : List JudgmentScheme) → root ≡ Closed
+    → AllByRecursion (λ p. MayStand th root p.context.root p.judgment) ps
+closed_placed th root [] e = tt
+closed_placed th root (p ∷ ps) e = (may_stand th root p.context.root p.judgment e, closed_placed th root ps e)
+
+pub closed_not_misplaced : (th : Theory) (r : Rule) (ps : List JudgmentScheme) (j : ℕ) → r.conclusion.context.root ≡ Closed
+    → IsFirstMisplaced th r ps j → ⊥
+closed_not_misplaced th r [] j e h = h
+closed_not_misplaced th r (p ∷ ps) j e (inl h) = h.1 (may_stand th r.conclusion.context.root p.context.root p.judgment e)
+closed_not_misplaced th r (p ∷ ps) j e (inr h) = closed_not_misplaced th r ps j e h.1
+
+-- a rule without a context is no assumption rule
+pub closed_assumes_nothing : (r : Rule) → IsClosedForm r.conclusion.context
+    → assumed_by r.conclusion.context.root r.conclusion.context.entries ≡ []
+closed_assumes_nothing r c = ap (λ x. assumed_by x r.conclusion.context.entries) c.root
+
+none_alike : (ps : List ℕ) → AnyByRecursion (λ p. AnyByRecursion (λ q. p ≡ q) []) ps → ⊥
+none_alike [] h = h
+none_alike (p ∷ ps) (inl h) = h
+none_alike (p ∷ ps) (inr h) = none_alike ps h
+
+pub closed_not_alike : (s r : Rule) → IsClosedForm r.conclusion.context → AssumeAlike s r → ⊥
+closed_not_alike s r c h =
+    none_alike (assumed_by s.conclusion.context.root s.conclusion.context.entries)
+    (subst (λ (qs : List ℕ). AnyByRecursion (λ p. AnyByRecursion (λ q. p ≡ q) qs) (assumed_by s.conclusion.context.root s.conclusion.context.entries)) (closed_assumes_nothing r c) h)
+
+no_second : (rs : List Rule) (n : ℕ) (r : Rule) → IsClosedForm r.conclusion.context → MatchOption (slice_get rs n) ⊥ (λ s. AssumeAlike s r) → ⊥
+no_second [] n r c h = h
+no_second (s ∷ rs) zero r c h = closed_not_alike s r c h
+no_second (s ∷ rs) (suc n) r c h = no_second rs n r c h
+
+pub closed_not_second : (th : Theory) (n : ℕ) (r : Rule) → IsClosedForm r.conclusion.context → MatchOption (slice_get th.rules n) ⊥ (λ s. AssumeAlike s r) → ⊥
+closed_not_second th n r c h = no_second th.rules n r c h
+
+assumed_with : (rs : List Rule) (r : Rule) → assumed_by r.conclusion.context.root r.conclusion.context.entries ≡ [] → assumed (rs ++ r ∷ []) ≡ assumed rs
+assumed_with [] r e = append-nil (assumed_by r.conclusion.context.root r.conclusion.context.entries) ∙ e
+assumed_with (s ∷ rs) r e = ap (λ ps. assumed_by s.conclusion.context.root s.conclusion.context.entries ++ ps) (assumed_with rs r e)
+
+-- what a rule needs of the theory does not depend on the other rules
+fits_with : (th : Theory) (r s : Rule) → RuleFits th s → RuleFits (with_rule th r) s
+fits_with th r s fits =
+    record {
+      forms = record { conclusion = fits.forms.conclusion; premises = fits.forms.premises; roots = fits.forms.roots; entries = fits.forms.entries };
+      good_conclusion = fits.good_conclusion;
+      strict = fits.strict;
+    }
+
+-- a system stays one with a rule more
+pub IsPlainSystem-with_rule : (th : Theory) (r : Rule) → IsPlainSystem th → RuleFits th r → HasPlainNames r → IsPlainSystem (with_rule th r)
+IsPlainSystem-with_rule th r system fits plain =
+    let closed = closed_form th r system.plain.sig system.so_far.judgments fits.forms in
+    record {
+      so_far = record {
+        sig = system.so_far.sig;
+        judgments = system.so_far.judgments;
+        rules = AllByRecursion-append (RuleFits (with_rule th r)) th.rules r (AllByRecursion-map (fits_with th r) th.rules system.so_far.rules) (fits_with th r r fits);
+        one_assumption = subst AreDifferent (sym (assumed_with th.rules r (closed_assumes_nothing r closed))) system.so_far.one_assumption;
+      };
+      plain = record { sig = system.plain.sig; rules = AllByRecursion-append HasPlainNames th.rules r system.plain.rules plain };
+    }
+
+-- a system without contexts is whole
+pub IsPlainSystem-whole : (th : Theory) → IsPlainSystem th → IsSystem th
+IsPlainSystem-whole th system =
+    record {
+      so_far = system.so_far;
+      closed_ok = AllByRecursion-map
+          (λ r fits. closed_placed th r.conclusion.context.root r.premises (closed_form th r system.plain.sig system.so_far.judgments fits.forms).root)
+          th.rules system.so_far.rules;
+    }
