@@ -1,9 +1,8 @@
-ghost use Rattle.std.specs.Prelude.{◌≡◌, ◌↔◌, IsTrue, IfOk, map};
-ghost use Rattle.scheme_terms.specs.SchemeTree.{values, shifted, shifted_values, shifted_parts};
-ghost use Rattle.scheme_terms.specs.View.{scheme, scheme_part, scheme_parts};
+ghost use Rattle.std.specs.Prelude.{◌≡◌, IfOk, map};
+ghost use Rattle.scheme_terms.specs.View.{scheme, scheme_part, scheme_entry, known_variable, names};
 
-use crate::scheme::{SArg, Scheme};
-use binding_terms::NoMemory;
+use crate::scheme::{KnownDecl, MetaDecl, SArg, SEntry, Scheme, Scope};
+use binding_terms::{NoMemory, Text};
 use sqlite_items::Items;
 use std::alloc::Global;
 
@@ -48,103 +47,73 @@ fn copy_parts(alloc: Global, parts: &[SArg]) -> Result<Items<SArg>, NoMemory>
     Ok(all)
 }
 
-/// Whether two schemes are the same.
-#[cycle(same)]
-pub fn same_scheme(a: &Scheme, b: &Scheme) -> bool
-    ensures { IsTrue result ↔ (scheme a.now ≡ scheme b.now) }
+fn copy_text(alloc: Global, text: &Text) -> Result<Text, NoMemory>
+    ensures { IfOk result (λ new. new ≡ text.now) }
 {
-    match (a, b) {
-        (Scheme::Meta(m, xs), Scheme::Meta(n, ys)) => m.0 == n.0
-            && same_values(xs.as_slice(), ys.as_slice()),
-        (Scheme::Known(k), Scheme::Known(l)) => *k == *l,
-        (Scheme::Local(i), Scheme::Local(j)) => *i == *j,
-        (Scheme::Con(p, xs), Scheme::Con(q, ys)) => p.0 == q.0
-            && same_parts(xs.as_slice(), ys.as_slice()),
-        _ => false,
-    }
+    let mut new = Text::new(alloc);
+    new.push(text.bytes())?;
+    Ok(new)
 }
 
-#[cycle(same)]
-fn same_values(xs: &[Scheme], ys: &[Scheme]) -> bool
-    ensures { IsTrue result ↔ (values (map scheme xs.now) ≡ values (map scheme ys.now)) }
+/// The same entry again.
+pub fn copy_entry(alloc: Global, entry: &SEntry) -> Result<SEntry, NoMemory>
+    ensures { IfOk result (λ new. scheme_entry new ≡ scheme_entry entry.now) }
 {
-    if xs.len() != ys.len() {
-        return false;
-    }
-    for i in 0..xs.len() {
-        if !same_scheme(&xs[i], &ys[i]) {
-            return false;
-        }
-    }
-    true
+    let args = copy_values(alloc, entry.args.as_slice())?;
+    Ok(SEntry {
+        prod: entry.prod,
+        args,
+    })
 }
 
-#[cycle(same)]
-fn same_part(x: &SArg, y: &SArg) -> bool
-    ensures { IsTrue result ↔ (scheme_part x.now ≡ scheme_part y.now) }
+fn copy_meta(alloc: Global, decl: &MetaDecl) -> Result<MetaDecl, NoMemory>
+    ensures { IfOk result (λ new. new ≡ decl.now) }
 {
-    x.binds == y.binds && same_scheme(&x.body, &y.body)
+    Ok(MetaDecl {
+        name: copy_text(alloc, &decl.name)?,
+        cat: decl.cat,
+        params: Items::from_slice(alloc, decl.params.as_slice())?,
+    })
 }
 
-#[cycle(same)]
-fn same_parts(xs: &[SArg], ys: &[SArg]) -> bool
-    ensures { IsTrue result ↔ (scheme_parts xs.now ≡ scheme_parts ys.now) }
+fn copy_known(alloc: Global, decl: &KnownDecl) -> Result<KnownDecl, NoMemory>
+    ensures { IfOk result (λ new. known_variable new ≡ known_variable decl.now) }
 {
-    if xs.len() != ys.len() {
-        return false;
-    }
-    for i in 0..xs.len() {
-        if !same_part(&xs[i], &ys[i]) {
-            return false;
-        }
-    }
-    true
+    Ok(KnownDecl {
+        name: copy_text(alloc, &decl.name)?,
+        entry: copy_entry(alloc, &decl.entry)?,
+    })
 }
 
-/// Raises by `by` each local at or above `cut`. `NoMemory` also where an index would pass `usize::MAX`.
-#[cycle(shift)]
-pub fn shift_scheme(alloc: Global, s: &Scheme, cut: usize, by: usize) -> Result<Scheme, NoMemory>
-    ensures { IfOk result (λ new. scheme new ≡ shifted cut by (scheme s.now)) }
-{
-    match s {
-        Scheme::Meta(m, args) => Ok(Scheme::Meta(*m, shift_values(alloc, args.as_slice(), cut, by)?)),
-        Scheme::Known(k) => Ok(Scheme::Known(*k)),
-        Scheme::Local(i) => {
-            if *i < cut {
-                Ok(Scheme::Local(*i))
-            } else {
-                Ok(Scheme::Local(i.checked_add(by).ok_or(NoMemory)?))
-            }
-        }
-        Scheme::Con(p, parts) => Ok(Scheme::Con(*p, shift_parts(alloc, parts.as_slice(), cut, by)?)),
-    }
-}
-
-#[cycle(shift)]
-#[tactic(auto, using(crate::proofs::Parts::done_shifted_values))]
-fn shift_values(alloc: Global, args: &[Scheme], cut: usize, by: usize) -> Result<Items<Scheme>, NoMemory>
-    ensures { IfOk result (λ all. values (map scheme all) ≡ shifted_values cut by (values (map scheme args.now))) }
+#[tactic(auto, using(std::proofs::lemmas::List::take_all))]
+fn copy_metas(alloc: Global, decls: &[MetaDecl]) -> Result<Items<MetaDecl>, NoMemory>
+    ensures { IfOk result (λ all. all ≡ decls.now) }
 {
     let mut all = Items::new(alloc);
-    for arg in args {
-        all.push(shift_scheme(alloc, arg, cut, by)?)?;
+    for decl in decls {
+        all.push(copy_meta(alloc, decl)?)?;
     }
     Ok(all)
 }
 
-#[cycle(shift)]
-#[tactic(auto, using(crate::proofs::Parts::done_shifted_parts))]
-fn shift_parts(alloc: Global, parts: &[SArg], cut: usize, by: usize) -> Result<Items<SArg>, NoMemory>
-    ensures { IfOk result (λ all. scheme_parts all ≡ shifted_parts cut by (scheme_parts parts.now)) }
+#[tactic(auto, using(std::proofs::lemmas::List::take_all))]
+fn copy_knowns(alloc: Global, decls: &[KnownDecl]) -> Result<Items<KnownDecl>, NoMemory>
+    ensures { IfOk result (λ all. map known_variable all ≡ map known_variable decls.now) }
 {
     let mut all = Items::new(alloc);
-    for part in parts {
-        let inner = cut.checked_add(part.binds).ok_or(NoMemory)?;
-        let body = shift_scheme(alloc, &part.body, inner, by)?;
-        all.push(SArg {
-            binds: part.binds,
-            body,
-        })?;
+    for decl in decls {
+        all.push(copy_known(alloc, decl)?)?;
     }
     Ok(all)
+}
+
+/// The same scope again.
+pub fn copy_scope(alloc: Global, scope: &Scope) -> Result<Scope, NoMemory>
+    ensures { IfOk result (λ new. names new ≡ names scope.now) }
+{
+    Ok(Scope {
+        root: scope.root,
+        metas: copy_metas(alloc, scope.metas.as_slice())?,
+        knowns: copy_knowns(alloc, scope.knowns.as_slice())?,
+    })
 }

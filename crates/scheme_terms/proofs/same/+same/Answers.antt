@@ -1,6 +1,6 @@
 use Rattle.std.proofs.Common.{◌<◌, length, sym, ◌∙◌, true≢false, arith}
 use Rattle.scheme_terms.proofs.Parts.{same_length_values, same_value_at, same_length_parts, same_part_at}
-use Rattle.scheme_terms.proofs.copying.+same.Goals as goal
+use Rattle.scheme_terms.proofs.same.+same.Goals as goal
 
 pub same_values-returns-then-xs-ys : goal.same_values-returns-then-xs-ys
 same_values-returns-then-xs-ys t c = (λ e. absurd (true≢false (sym e)), λ e. absurd (c.if-xs-ys.true (same_length_values _ _ e)))

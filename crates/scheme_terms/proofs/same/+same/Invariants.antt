@@ -1,6 +1,6 @@
 use Rattle.std.proofs.Common.{◌≡◌, map, take}
 use Rattle.scheme_terms.specs.View.{scheme, scheme_part}
-use Rattle.scheme_terms.proofs.copying.+same.Given as goal
+use Rattle.scheme_terms.proofs.same.+same.Given as goal
 
 abbrev pub invariant-same_values-loop-i : goal.invariant-same_values-loop-i
 invariant-same_values-loop-i l = map scheme (take l.i l.xs) ≡ map scheme (take l.i l.ys)
