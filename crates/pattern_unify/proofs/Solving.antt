@@ -49,7 +49,7 @@ all_append P (x ∷ xs) ys =
     let rest = all_append P xs ys in
     (λ h. ((h.0, (rest.0 h.1).0), (rest.0 h.1).1), λ h. (h.0.0, rest.1 (h.0.1, h.1)))
 
-met_joined : (ss : List SchemeTree) (xs ys : Option (List (ℕ × SchemeTree))) → Met ss (joined xs ys) ↔ (Met ss xs × Met ss ys)
+pub met_joined : (ss : List SchemeTree) (xs ys : Option (List (ℕ × SchemeTree))) → Met ss (joined xs ys) ↔ (Met ss xs × Met ss ys)
 met_joined ss None ys = (λ h. absurd h, λ h. h.0)
 met_joined ss (Some xs) None = (λ h. absurd h, λ h. h.1)
 met_joined ss (Some xs) (Some ys) = all_append (λ d. scheme_for ss d.0 ≡ d.1) xs ys
@@ -130,12 +130,12 @@ abbrev pub Each : (ℕ × SchemeTree → Type 0) → Option (List (ℕ × Scheme
 Each P None = Unit {0}
 Each P (Some ds) = AllByRecursion P ds
 
-each_joined : (P : ℕ × SchemeTree → Type 0) (xs ys : Option (List (ℕ × SchemeTree))) → Each P xs → Each P ys → Each P (joined xs ys)
+pub each_joined : (P : ℕ × SchemeTree → Type 0) (xs ys : Option (List (ℕ × SchemeTree))) → Each P xs → Each P ys → Each P (joined xs ys)
 each_joined P None ys h g = tt
 each_joined P (Some xs) None h g = tt
 each_joined P (Some xs) (Some ys) h g = (all_append P xs ys).1 (h, g)
 
-each_test : (P : ℕ × SchemeTree → Type 0) (b : Bool) → Each P (test b)
+pub each_test : (P : ℕ × SchemeTree → Type 0) (b : Bool) → Each P (test b)
 each_test P true = tt
 each_test P false = tt
 
@@ -145,11 +145,11 @@ each_fixed P m (known k) = tt
 each_fixed P m (local i) = tt
 each_fixed P m (con p xs) = tt
 
-each_if : (P : ℕ × SchemeTree → Type 0) (b : Bool) (xs : Option (List (ℕ × SchemeTree))) → (b ≡ true → Each P xs) → Each P (if b then xs else None)
+pub each_if : (P : ℕ × SchemeTree → Type 0) (b : Bool) (xs : Option (List (ℕ × SchemeTree))) → (b ≡ true → Each P xs) → Each P (if b then xs else None)
 each_if P true xs h = h refl
 each_if P false xs h = tt
 
-each_meta : (P : ℕ × SchemeTree → Type 0) (m : ℕ) (t : SchemeTree) (b : Bool) → (b ≡ true → P (m, t)) → Each P (if b then Some ((m, t) ∷ []) else fixed_demands m t)
+pub each_meta : (P : ℕ × SchemeTree → Type 0) (m : ℕ) (t : SchemeTree) (b : Bool) → (b ≡ true → P (m, t)) → Each P (if b then Some ((m, t) ∷ []) else fixed_demands m t)
 each_meta P m t true h = (h refl, tt)
 each_meta P m t false h = each_fixed P m t
 
@@ -194,12 +194,12 @@ any_append P (x ∷ xs) ys (inl (inl h)) = inl h
 any_append P (x ∷ xs) ys (inl (inr h)) = inr (any_append P xs ys (inl h))
 any_append P (x ∷ xs) ys (inr h) = inr (any_append P xs ys (inr h))
 
-asks_first : (m : ℕ) (xs ys : Option (List (ℕ × SchemeTree))) → Asks m xs → Asks m (joined xs ys)
+pub asks_first : (m : ℕ) (xs ys : Option (List (ℕ × SchemeTree))) → Asks m xs → Asks m (joined xs ys)
 asks_first m None ys h = tt
 asks_first m (Some xs) None h = tt
 asks_first m (Some xs) (Some ys) h = any_append (λ d. d.0 ≡ m) xs ys (inl h)
 
-asks_later : (m : ℕ) (xs ys : Option (List (ℕ × SchemeTree))) → Asks m ys → Asks m (joined xs ys)
+pub asks_later : (m : ℕ) (xs ys : Option (List (ℕ × SchemeTree))) → Asks m ys → Asks m (joined xs ys)
 asks_later m None ys h = tt
 asks_later m (Some xs) None h = tt
 asks_later m (Some xs) (Some ys) h = any_append (λ d. d.0 ≡ m) xs ys (inr h)

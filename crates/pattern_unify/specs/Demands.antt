@@ -1,7 +1,10 @@
 -- What equations leave to say once their sides are taken apart: the flexible names, each with what it has to stand for.
-use Rattle.std.specs.Prelude.{◌≡◌, ℕ, ◌==◌, Bool, true, false, ◌||◌, if◌then◌else◌, List, [], ◌∷◌, ◌++◌, Option, Some, None}
+use Rattle.std.specs.Prelude.{◌≡◌, ℕ, ◌==◌, Bool, true, false, ◌||◌, if◌then◌else◌, List, [], ◌∷◌, ◌++◌, Option, Some, None, unwrap_or, ◌+◌}
+use Rattle.std.specs.List.{AllByRecursion}
 use Rattle.scheme_terms.specs.SchemeTree.{SchemeTree, meta, known, local, con, Values, no_values, Parts, no_parts, part}
+use Rattle.scheme_terms.specs.Forms.{Names, Substitution}
 use Rattle.scheme_terms.specs.View.{scheme}
+use Rattle.scheme_terms.specs.declared.scheme.MetaDecl.{MetaDecl}
 use Rattle.pattern_unify.specs.Equations.{SchemeEquation}
 use Rattle.pattern_unify.specs.declared.demand.Demand.{Demand}
 
@@ -60,3 +63,20 @@ all_demands flexible (e ∷ es) = joined (demands flexible e.left e.right) (all_
 abbrev pub first_for : {A : Type 0} → ℕ → List (ℕ × A) → Option A
 first_for m [] = None
 first_for m (d ∷ ds) = if d.0 == m then Some d.1 else first_for m ds
+
+-- the demands are of one mind: what each asks of its name is what is asked of it first
+abbrev pub Agree : {A : Type 0} → List (ℕ × A) → Type 0
+Agree ds = AllByRecursion (λ d. first_for d.0 ds ≡ Some d.1) ds
+
+-- a name stands for what is asked of it first, or for itself
+abbrev pub scheme_at : List (ℕ × SchemeTree) → ℕ → SchemeTree
+scheme_at ds n = unwrap_or (first_for n ds) (meta n no_values)
+
+-- the schemes of names that are numbered from n on
+abbrev pub schemes_from : List (ℕ × SchemeTree) → (n : ℕ) → List MetaDecl → List SchemeTree
+schemes_from ds n [] = []
+schemes_from ds n (decl ∷ decls) = scheme_at ds n ∷ schemes_from ds (n + 1) decls
+
+-- the substitution of a scope into itself that gives names what is asked of them
+abbrev pub solution : List (ℕ × SchemeTree) → Names → Substitution
+solution ds names = record { metas = schemes_from ds 0 names.metas; knowns = []; into = names }

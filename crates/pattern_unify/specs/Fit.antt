@@ -3,7 +3,7 @@ use Rattle.std.specs.Prelude.{◌≡◌, ℕ, zero, suc, List, length, Option, S
 use Rattle.std.specs.List.{AllByRecursion}
 use Rattle.binding_terms.specs.Numbered.{AnyByRecursion, AllNumbered}
 use Rattle.binding_terms.specs.Signature.{Signature}
-use Rattle.scheme_terms.specs.SchemeTree.{SchemeTree, meta, local, Values, no_values, value, StrictIn, OccursIn}
+use Rattle.scheme_terms.specs.SchemeTree.{SchemeTree, meta, local, Values, no_values, value, StrictIn}
 use Rattle.scheme_terms.specs.Forms.{Names, Substitution}
 use Rattle.scheme_terms.specs.SchemeScope.{IsScheme}
 use Rattle.scheme_terms.specs.Substituting.{scheme_for, known_for, applied, IsSubstitution}
@@ -14,11 +14,10 @@ use Rattle.pattern_unify.specs.Equations.{SchemeEquation}
 abbrev pub AreSides : Signature → Names → SchemeEquation → Type 0
 AreSides sig names e = (c : ℕ) × IsScheme sig names e.locals c e.left × IsScheme sig names e.locals c e.right
 
--- Each flexible name has a strict occurrence in a left side, and none stands in a right side.
+-- The sides go together, and each flexible name has a strict occurrence in a left side.
 pub record AreToFit (sig : Signature) (names : Names) (flexible : List ℕ) (eqs : List SchemeEquation) : Type 0 where
   pub sides : AllByRecursion (AreSides sig names) eqs
   pub strict : AllByRecursion (λ m. AnyByRecursion (λ e. StrictIn m e.left) eqs) flexible
-  pub fixed : AllByRecursion (λ m. AllByRecursion (λ e. OccursIn m e.right → ⊥) eqs) flexible
 
 -- the parameters of a metavariable as locals, the last innermost
 abbrev pub own_parameters : ℕ → Values
