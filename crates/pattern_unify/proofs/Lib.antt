@@ -1,7 +1,8 @@
 pub mod Answering
 pub mod Categories
+pub mod Copies
 pub mod Firsts
-pub mod Fitting
+pub mod OnlyFit
 pub mod Joining
 pub mod Places
 pub mod PlainSchemes

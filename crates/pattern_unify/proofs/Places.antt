@@ -1,7 +1,12 @@
 -- Facts about each place of a list.
-use Rattle.std.proofs.Common.{◌≡◌, ◌⊎◌, ℕ, zero, suc, ◌+◌, ◌<◌, ◌==◌, ◌||◌, Bool, true, false, List, [], ◌∷◌, length, Option, Some, None, slice_get, unwrap_or, inl, inr, refl, ap, ◌∙◌, subst, arith}
+use Rattle.std.proofs.Common.{◌≡◌, ◌⊎◌, ℕ, zero, suc, ◌+◌, ◌<◌, ◌==◌, ◌||◌, Bool, true, false, List, [], ◌∷◌, length, Option, Some, None, slice_get, unwrap_or, inl, inr, ◌++◌, drop, map, refl, ap, ◌∙◌, sym, subst, append_assoc, arith}
 use Rattle.std.specs.List.{AllByRecursion, AllZip}
 use Rattle.std.proofs.lemmas.Bool.Decides.{nat_tests}
+use Rattle.std.proofs.lemmas.List.{map-append}
+use Rattle.std.proofs.lemmas.Option.{get_or_from_slice_get}
+use Rattle.scheme_terms.specs.View.{scheme}
+use Rattle.scheme_terms.specs.declared.scheme.Scheme.{Scheme}
+use Rattle.pattern_unify.proofs.Joining.{left_at}
 use Rattle.binding_terms.specs.Numbered.{AnyByRecursion, AllNumbered}
 use Rattle.scheme_terms.specs.SchemeTree.{SchemeTree, local}
 use Rattle.scheme_terms.specs.Substituting.{scheme_for}
@@ -81,3 +86,16 @@ pub within : {A : Type 0} (xs : List A) (k : ℕ) → k < length xs → (x : A) 
 within [] k h = absurd (omega arith)
 within (x ∷ xs) zero h = (x, refl)
 within (x ∷ xs) (suc k) h = within xs k (omega arith)
+
+-- one scheme more in the list
+pub schemes_more : (ds : List (ℕ × SchemeTree)) (decls : List MetaDecl) (i : ℕ) (all new : List Scheme) (s : Scheme) (whole : List SchemeTree) →
+    i < length decls → scheme s ≡ scheme_at ds i → new ≡ all ++ s ∷ [] → map scheme all ++ schemes_from ds i (drop i decls) ≡ whole →
+    map scheme new ++ schemes_from ds (i + 1) (drop (i + 1) decls) ≡ whole
+schemes_more ds decls i all new s whole h is more e =
+    let here = within decls i h in
+    let left : drop i decls ≡ here.0 ∷ drop (i + 1) decls = left_at decls i here.0 h (sym (get_or_from_slice_get decls i here.0 here.0 here.1)) in
+    ap (λ xs. map scheme xs ++ schemes_from ds (i + 1) (drop (i + 1) decls)) more
+    ∙ ap (λ xs. xs ++ schemes_from ds (i + 1) (drop (i + 1) decls)) (map-append scheme all (s ∷ []))
+    ∙ append_assoc (map scheme all) (scheme s ∷ []) (schemes_from ds (i + 1) (drop (i + 1) decls))
+    ∙ ap (λ t. map scheme all ++ t ∷ schemes_from ds (i + 1) (drop (i + 1) decls)) is
+    ∙ ap (λ xs. map scheme all ++ schemes_from ds i xs) (sym left) ∙ e

@@ -1,7 +1,10 @@
 //! Substitutions that make schemes equal.
 #![tactic(auto)]
 
+mod copying;
 mod demand;
 mod equation;
+mod fitting;
 
 pub use equation::Equation;
+pub use fitting::fit;
