@@ -1,6 +1,5 @@
 pub mod Answering
 pub mod Categories
-pub mod Copies
 pub mod Firsts
 pub mod OnlyFit
 pub mod Joining

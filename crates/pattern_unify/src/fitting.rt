@@ -5,11 +5,10 @@ ghost use Rattle.pattern_unify.specs.Plain.{AreWithoutBinding};
 ghost use Rattle.pattern_unify.specs.Fit.{AreToFit, IsOnlyFit};
 ghost use Rattle.pattern_unify.specs.Demands.{demand, first_for, Agree, scheme_at, schemes_from, solution};
 
-use crate::copying::{copy_declarations, copy_scheme, same_scheme};
 use crate::demand::{Demand, demands_of, first_of};
 use crate::equation::Equation;
 use binding_terms::{NoMemory, Sig};
-use scheme_terms::{MetaDecl, MetaId, Scheme, Scope, Subst};
+use scheme_terms::{MetaDecl, MetaId, Scheme, Scope, Subst, copy_scheme, copy_scope, same_scheme};
 use sqlite_items::Items;
 use std::alloc::Global;
 
@@ -77,19 +76,12 @@ fn substitution_for(
     scope: &Scope,
     found: &[Demand<'_>],
 ) -> Result<Subst, NoMemory>
-    requires { (names scope.now).knowns ≡ [] }
     ensures { IfOk result (λ by. substitution by ≡ solution (map demand found.now) (names scope.now)) }
 {
-    let metas = schemes_for(alloc, found, scope.metas.as_slice())?;
-    let declared = copy_declarations(alloc, scope.metas.as_slice())?;
     Ok(Subst {
-        metas,
+        metas: schemes_for(alloc, found, scope.metas.as_slice())?,
         knowns: Items::new(alloc),
-        into: Scope {
-            root: scope.root,
-            metas: declared,
-            knowns: Items::new(alloc),
-        },
+        into: copy_scope(alloc, scope)?,
     })
 }
 

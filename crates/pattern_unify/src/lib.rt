@@ -1,7 +1,6 @@
 //! Substitutions that make schemes equal.
 #![tactic(auto)]
 
-mod copying;
 mod demand;
 mod equation;
 mod fitting;
