@@ -1,9 +1,11 @@
 pub mod AppliedInstances
 pub mod Arguments
+pub mod DistinctLocals
 pub mod Followed
 pub mod InstanceScopes
 pub mod Lists
 pub mod Options
+pub mod Parts
 pub mod RaisedInstances
 pub mod SchemeFacts
 pub mod StrictAgreements

@@ -1,5 +1,5 @@
 -- What instances and substitutions keep, and how one goes after another.
-use Rattle.std.specs.Prelude.{◌≡◌, ℕ, List, [], ◌++◌, length}
+use Rattle.std.specs.Prelude.{◌≡◌, ℕ, List, [], ◌++◌, length, slice_get}
 use Rattle.binding_terms.specs.Signature.{Signature, Fits}
 use Rattle.binding_terms.specs.Scope.{IsTerm}
 use Rattle.scheme_terms.specs.SchemeTree.{SchemeTree, StrictIn}
@@ -40,3 +40,10 @@ abbrev pub StrictAgreement : Type 0
 StrictAgreement =
     (first second : Instance) (d m : ℕ) (s : SchemeTree) → LocalsBelow d s → StrictIn m s →
     instance_of first d s ≡ instance_of second d s → value_of first m ≡ value_of second m
+
+-- the same of two instances of a scope
+abbrev pub StrictAgreementInScope : Type 0
+StrictAgreementInScope =
+    (sig : Signature) (scope : Names) (first second : Instance) (locals : List ℕ) (c m : ℕ) (s : SchemeTree) →
+    FitsScope sig scope first → FitsScope sig scope second → IsScheme sig scope locals c s → StrictIn m s →
+    instance_of first (length locals) s ≡ instance_of second (length locals) s → slice_get first.metas m ≡ slice_get second.metas m

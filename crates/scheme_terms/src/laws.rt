@@ -1,6 +1,6 @@
 //! What instances and substitutions keep, and how one goes after another. The functions do nothing: their contracts are the laws.
 
-ghost use Rattle.scheme_terms.specs.Laws.{InstanceOfApplied, InstanceOfAppliedScheme, InstanceKeepsScope, InstanceKeepsScopeOfMetas, StrictAgreement};
+ghost use Rattle.scheme_terms.specs.Laws.{InstanceOfApplied, InstanceOfAppliedScheme, InstanceKeepsScope, InstanceKeepsScopeOfMetas, StrictAgreement, StrictAgreementInScope};
 
 /// The instance of a scheme in which schemes were put in.
 #[tactic(auto, using(crate::proofs::Followed::instance_of_applied, crate::proofs::Followed::instance_of_applied_scheme))]
@@ -17,7 +17,8 @@ pub fn instance_keeps_scope()
 {}
 
 /// Two instances that give a scheme the same instance give the same value to a metavariable with a strict occurrence in it.
-#[tactic(auto, using(crate::proofs::StrictAgreements::strict_agreement))]
+#[tactic(auto, using(crate::proofs::StrictAgreements::strict_agreement, crate::proofs::StrictAgreements::strict_agreement_in_scope))]
 pub fn strict_agreement()
-    ensures { StrictAgreement }
+    ensures of_locals { StrictAgreement }
+    ensures in_scope { StrictAgreementInScope }
 {}

@@ -1,0 +1,4 @@
+pub mod Demands
+pub mod Equations
+pub mod Fit
+pub mod Plain

@@ -1,0 +1,9 @@
+//! Substitutions that make schemes equal.
+#![tactic(auto)]
+
+mod demand;
+mod equation;
+mod fitting;
+
+pub use equation::Equation;
+pub use fitting::fit;
