@@ -36,18 +36,18 @@ module _ (sig : Signature) (names : Names) (fl : List ℕ) where
 
   module _ (slots_bind : NothingBinds sig) (metas : HaveNoParameters names.metas) (knowns : names.knowns ≡ []) where
     pub of_category_all : (es : List SchemeEquation) → AllByRecursion (λ e. e.locals ≡ []) es → AllByRecursion (AreSides sig names) es →
-        Each (OfItsCategory sig names) (all_demands fl es)
+        Each (OfItsCategory sig names names) (all_demands fl es)
     of_category_all [] l h = tt
     of_category_all (e ∷ es) l h =
         let sides = sides_at e l.0 h.0 in
-        each_joined (OfItsCategory sig names) (demands fl e.left e.right) (all_demands fl es)
-        (of_category sig names slots_bind fl sides.0 e.left e.right sides.1 sides.2) (of_category_all es l.1 h.1)
+        each_joined (OfItsCategory sig names names) (demands fl e.left e.right) (all_demands fl es)
+        (of_category sig names names slots_bind fl sides.0 e.left e.right sides.1 sides.2) (of_category_all es l.1 h.1)
 
     met_one : (ss : List SchemeTree) (ks : List ℕ) → Keeps fl ss (length names.metas) → (e : SchemeEquation) → e.locals ≡ [] → AreSides sig names e →
         Met ss (demands fl e.left e.right) ↔ Becomes ss ks e
     met_one ss ks keeps e l h =
         let sides = sides_at e l h in
-        let is = met_demands fl ss ks (length names.metas) keeps e.left e.right
+        let is = met_demands fl ss ks (length names.metas) (length names.metas) keeps e.left e.right
             (plain_scheme sig names slots_bind metas knowns sides.0 e.left sides.1) (plain_scheme sig names slots_bind metas knowns sides.0 e.right sides.2) in
         let depth : applied ss ks (length e.locals) e.left ≡ applied ss ks 0 e.left = ap (λ ls. applied ss ks (length ls) e.left) l in
         (λ k. depth ∙ is.0 k, λ k. is.1 (sym depth ∙ k))

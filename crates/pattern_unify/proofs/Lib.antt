@@ -2,6 +2,7 @@ pub mod Answering
 pub mod Categories
 pub mod Firsts
 pub mod OnlyFit
+pub mod IntoFit
 pub mod Joining
 pub mod Places
 pub mod PlainSchemes

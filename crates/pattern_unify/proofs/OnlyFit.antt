@@ -32,19 +32,19 @@ asked_or_itself ds m = at (first_for m ds) refl
     at None e = inr (ap (λ o. unwrap_or o (meta m no_values)) e)
     at (Some t) e = inl (t, e, ap (λ o. unwrap_or o (meta m no_values)) e)
 
-scheme_at-first : (ds : List (ℕ × SchemeTree)) (m : ℕ) (t : SchemeTree) → first_for m ds ≡ Some t → scheme_at ds m ≡ t
+pub scheme_at-first : (ds : List (ℕ × SchemeTree)) (m : ℕ) (t : SchemeTree) → first_for m ds ≡ Some t → scheme_at ds m ≡ t
 scheme_at-first ds m t e = ap (λ o. unwrap_or o (meta m no_values)) e
 
-no_knowns : (by : Substitution) (xs : List KnownVariable) (ks : List ℕ) → xs ≡ [] → AllZip (IsKnownValue by) xs ks → ks ≡ []
+pub no_knowns : (by : Substitution) (xs : List KnownVariable) (ks : List ℕ) → xs ≡ [] → AllZip (IsKnownValue by) xs ks → ks ≡ []
 no_knowns by [] [] e h = refl
 no_knowns by [] (k ∷ ks) e h = absurd h
 no_knowns by (x ∷ xs) ks e h = cc
 
-empty_knowns : (by : Substitution) (xs : List KnownVariable) → xs ≡ [] → AllZip (IsKnownValue by) xs []
+pub empty_knowns : (by : Substitution) (xs : List KnownVariable) → xs ≡ [] → AllZip (IsKnownValue by) xs []
 empty_knowns by [] e = tt
 empty_knowns by (x ∷ xs) e = cc
 
-is_scheme_for : (ss : List SchemeTree) (m : ℕ) → m < length ss → slice_get ss m ≡ Some (scheme_for ss m)
+pub is_scheme_for : (ss : List SchemeTree) (m : ℕ) → m < length ss → slice_get ss m ≡ Some (scheme_for ss m)
 is_scheme_for ss m h = slice_get-get_or ss m (local 0) h ∙ ap Some (sym (unwrap_or-slice_get ss m (local 0)))
 
 module _ (sig : Signature) (names : Names) (fl : List ℕ) (eqs : List SchemeEquation)
@@ -64,9 +64,9 @@ module _ (sig : Signature) (names : Names) (fl : List ℕ) (eqs : List SchemeEqu
     flexible_ones : AllByRecursion (OfFlexible fl) ds
     flexible_ones = subst (Each (OfFlexible fl)) is (of_flexible_all sig names fl eqs)
 
-    of_category_ones : AllByRecursion (OfItsCategory sig names) ds
+    of_category_ones : AllByRecursion (OfItsCategory sig names names) ds
     of_category_ones =
-        subst (Each (OfItsCategory sig names)) is (of_category_all sig names fl plain.slots plain.metas plain.knowns eqs plain.locals asked.sides)
+        subst (Each (OfItsCategory sig names names)) is (of_category_all sig names fl plain.slots plain.metas plain.knowns eqs plain.locals asked.sides)
 
     stays_at : (m : ℕ) → is_among m fl ≡ false → scheme_at ds m ≡ meta m no_values
     stays_at m other =
@@ -124,14 +124,14 @@ module _ (sig : Signature) (names : Names) (fl : List ℕ) (eqs : List SchemeEqu
         let third = fit.into in
         λ i. record { metas = first i; knowns = second i; into = third i }
 
-    below_metas : (d : ℕ × SchemeTree) → OfItsCategory sig names d → d.0 < length names.metas
+    below_metas : (d : ℕ × SchemeTree) → OfItsCategory sig names names d → d.0 < length names.metas
     below_metas d h = at (slice_get names.metas d.0) refl h
       where
         at : (o : Option MetaDecl) → slice_get names.metas d.0 ≡ o → MatchOption o ⊥ (λ decl. IsScheme sig names [] decl.cat.0 d.1) → d.0 < length names.metas
         at None e k = absurd k
         at (Some decl) e k = slice_get_within names.metas d.0 decl e
 
-    met_by_solution : (es : List (ℕ × SchemeTree)) → AllByRecursion (OfItsCategory sig names) es → AllByRecursion (λ d. first_for d.0 ds ≡ Some d.1) es →
+    met_by_solution : (es : List (ℕ × SchemeTree)) → AllByRecursion (OfItsCategory sig names names) es → AllByRecursion (λ d. first_for d.0 ds ≡ Some d.1) es →
         AllByRecursion (λ d. scheme_for (schemes_from ds 0 names.metas) d.0 ≡ d.1) es
     met_by_solution [] h g = tt
     met_by_solution (d ∷ es) h g =
@@ -154,7 +154,7 @@ module _ (sig : Signature) (names : Names) (fl : List ℕ) (eqs : List SchemeEqu
             = elim (asked_or_itself ds k) [
               inl found ↦ subst (IsScheme sig names [] decl.cat.0) (sym found.2)
                   (subst (λ o. MatchOption o ⊥ (λ d. IsScheme sig names [] d.cat.0 found.0)) e
-                      (first_so (λ m t. OfItsCategory sig names (m, t)) k found.0 ds of_category_ones found.1))
+                      (first_so (λ m t. OfItsCategory sig names names (m, t)) k found.0 ds of_category_ones found.1))
               | inr itself ↦ subst (IsScheme sig names [] decl.cat.0) (sym itself)
                   (subst (λ o. MatchOption o ⊥ (λ d. (d.cat.0 ≡ decl.cat.0) × AreValues sig names [] (map (λ p. p.0) d.params) no_values)) (sym e)
                       (refl, subst (λ ps. AreValues sig names [] (map (λ p. p.0) ps) no_values) (sym none) tt))

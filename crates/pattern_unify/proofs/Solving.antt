@@ -65,8 +65,8 @@ same_number m n = (λ h. grind (arith, nat_tests), λ h. grind (arith, nat_tests
 abbrev pub Keeps : List ℕ → List SchemeTree → (count : ℕ) → Type 0
 Keeps fl ss n = (m : ℕ) → m < n → is_among m fl ≡ false → scheme_for ss m ≡ meta m no_values
 
-module _ (fl : List ℕ) (ss : List SchemeTree) (ks : List ℕ) (n : ℕ) (keeps : Keeps fl ss n) where
-  met_fixed : (m : ℕ) (t : SchemeTree) → scheme_for ss m ≡ meta m no_values → IsPlain n t → Met ss (fixed_demands m t) ↔ (scheme_for ss m ≡ t)
+module _ (fl : List ℕ) (ss : List SchemeTree) (ks : List ℕ) (n other : ℕ) (keeps : Keeps fl ss n) where
+  met_fixed : (m : ℕ) (t : SchemeTree) → scheme_for ss m ≡ meta m no_values → IsPlain other t → Met ss (fixed_demands m t) ↔ (scheme_for ss m ≡ t)
   met_fixed m (meta k ws) e h = (
       λ g. let same : m ≡ k = (same_number m k).0 ((met_test ss (m == k)).0 g) in
           let none = h.1 in
@@ -77,7 +77,7 @@ module _ (fl : List ℕ) (ss : List SchemeTree) (ks : List ℕ) (n : ℕ) (keeps
   met_fixed m (local i) e h = absurd h
   met_fixed m (con p xs) e h = (λ g. absurd g, λ g. cc)
 
-  met_meta : (m : ℕ) (t : SchemeTree) (b : Bool) → is_among m fl ≡ b → m < n → IsPlain n t →
+  met_meta : (m : ℕ) (t : SchemeTree) (b : Bool) → is_among m fl ≡ b → m < n → IsPlain other t →
       Met ss (if b then Some ((m, t) ∷ []) else fixed_demands m t) ↔ (scheme_for ss m ≡ t)
   met_meta m t true e h g = (λ k. k.0, λ k. (k, tt))
   met_meta m t false e h g = met_fixed m t (keeps m h e) g
@@ -94,7 +94,7 @@ module _ (fl : List ℕ) (ss : List SchemeTree) (ks : List ℕ) (n : ℕ) (keeps
       (λ k. absurd k, λ k. let same : p ≡ q = cc in let yes = (same_number p q).1 same in cc)
 
   mutual
-    pub met_demands : (s t : SchemeTree) → IsPlain n s → IsPlain n t → Met ss (demands fl s t) ↔ (applied ss ks 0 s ≡ t)
+    pub met_demands : (s t : SchemeTree) → IsPlain n s → IsPlain other t → Met ss (demands fl s t) ↔ (applied ss ks 0 s ≡ t)
     met_demands (meta m vs) t h g =
         let here = met_meta m t (is_among m fl) refl h.0 g in
         let is = applied_meta ss ks m vs h.1 in
@@ -106,7 +106,7 @@ module _ (fl : List ℕ) (ss : List SchemeTree) (ks : List ℕ) (n : ℕ) (keeps
     met_demands (con p xs) (local i) h g = absurd g
     met_demands (con p xs) (con q ys) h g = met_con p q xs ys (p == q) refl (met_parts xs ys h g)
 
-    met_parts : (xs ys : Parts) → ArePlain n xs → ArePlain n ys → Met ss (part_demands fl xs ys) ↔ (applied_parts ss ks 0 xs ≡ ys)
+    met_parts : (xs ys : Parts) → ArePlain n xs → ArePlain other ys → Met ss (part_demands fl xs ys) ↔ (applied_parts ss ks 0 xs ≡ ys)
     met_parts no_parts no_parts h g = (λ k. refl, λ k. tt)
     met_parts no_parts (part b t ys) h g = (λ k. absurd k, λ k. cc)
     met_parts (part a s xs) no_parts h g = (λ k. absurd k, λ k. cc)

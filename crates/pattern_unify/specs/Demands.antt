@@ -1,5 +1,5 @@
 -- What equations leave to say once their sides are taken apart: the flexible names, each with what it has to stand for.
-use Rattle.std.specs.Prelude.{◌≡◌, ℕ, ◌==◌, Bool, true, false, ◌||◌, if◌then◌else◌, List, [], ◌∷◌, ◌++◌, Option, Some, None, unwrap_or, ◌+◌}
+use Rattle.std.specs.Prelude.{◌≡◌, ℕ, zero, suc, ◌==◌, Bool, true, false, ◌||◌, if◌then◌else◌, List, [], ◌∷◌, ◌++◌, Option, Some, None, unwrap_or, ◌+◌}
 use Rattle.std.specs.List.{AllByRecursion}
 use Rattle.scheme_terms.specs.SchemeTree.{SchemeTree, meta, known, local, con, Values, no_values, Parts, no_parts, part}
 use Rattle.scheme_terms.specs.Forms.{Names, Substitution}
@@ -80,3 +80,12 @@ schemes_from ds n (decl ∷ decls) = scheme_at ds n ∷ schemes_from ds (n + 1) 
 -- the substitution of a scope into itself that gives names what is asked of them
 abbrev pub solution : List (ℕ × SchemeTree) → Names → Substitution
 solution ds names = record { metas = schemes_from ds 0 names.metas; knowns = []; into = names }
+
+-- the numbers below n
+abbrev pub up_to : ℕ → List ℕ
+up_to zero = []
+up_to (suc n) = up_to n ++ n ∷ []
+
+-- the substitution of one scope by schemes of another that gives names what is asked of them
+abbrev pub solution_into : List (ℕ × SchemeTree) → (from into : Names) → Substitution
+solution_into ds from into = record { metas = schemes_from ds 0 from.metas; knowns = []; into = into }

@@ -3,7 +3,8 @@ ghost use Rattle.scheme_terms.specs.View.{scheme, names, substitution};
 ghost use Rattle.pattern_unify.specs.Equations.{equation};
 ghost use Rattle.pattern_unify.specs.Plain.{AreWithoutBinding};
 ghost use Rattle.pattern_unify.specs.Fit.{AreToFit, IsOnlyFit};
-ghost use Rattle.pattern_unify.specs.Demands.{demand, first_for, Agree, scheme_at, schemes_from, solution};
+ghost use Rattle.pattern_unify.specs.FitInto.{AreWithoutBindingInto, AreToFitInto, IsOnlyFitInto};
+ghost use Rattle.pattern_unify.specs.Demands.{demand, first_for, Agree, scheme_at, schemes_from, solution, up_to, solution_into};
 
 use crate::demand::{Demand, demands_of, first_of};
 use crate::equation::Equation;
@@ -106,4 +107,60 @@ pub fn fit(
         return Ok(None);
     }
     Ok(Some(substitution_for(alloc, scope, found.as_slice())?))
+}
+
+/// The numbers of so many names.
+fn all_names(alloc: Global, count: usize) -> Result<Vec<MetaId>, NoMemory>
+    ensures { IfOk result (λ all. map (λ m. m.0) all.items ≡ up_to count) }
+{
+    let mut all = Vec::new(alloc);
+    for i in 0..count {
+        all.push(MetaId(name_at(i)?))?;
+    }
+    Ok(all)
+}
+
+/// The substitution of the names of `from` by schemes of `into` that gives each name what is asked of it.
+fn substitution_into(
+    alloc: Global,
+    from: &Scope,
+    into: &Scope,
+    found: &[Demand<'_>],
+) -> Result<Subst, NoMemory>
+    ensures { IfOk result (λ by. substitution by ≡ solution_into (map demand found.now) (names from.now) (names into.now)) }
+{
+    Ok(Subst {
+        metas: schemes_for(alloc, found, from.metas.as_slice())?,
+        knowns: Items::new(alloc),
+        into: copy_scope(alloc, into)?,
+    })
+}
+
+/// The one substitution of the names of `from` by schemes of `into` that makes each left side, which is over `from`, its right
+/// side, which is over `into`, or none where there is none.
+pub fn fit_into(
+    alloc: Global,
+    sig: &Sig,
+    from: &Scope,
+    into: &Scope,
+    eqs: &Vec<Equation>,
+) -> Result<Option<Subst>, NoMemory>
+    requires plain { AreWithoutBindingInto sig.now (names from.now) (names into.now) (map equation eqs.now.items) }
+    requires asked { AreToFitInto sig.now (names from.now) (names into.now) (map equation eqs.now.items) }
+    ensures { IfOk result (λ answer. IsOnlyFitInto sig.now (names from.now) (names into.now) (map equation eqs.now.items) (option_map substitution answer)) }
+{
+    let flexible = all_names(alloc, from.metas.len())?;
+    let found = match demands_of(alloc, flexible.as_slice(), eqs.as_slice())? {
+        Some(found) => found,
+        None => return Ok(None),
+    };
+    if !agree(found.as_slice()) {
+        return Ok(None);
+    }
+    Ok(Some(substitution_into(
+        alloc,
+        from,
+        into,
+        found.as_slice(),
+    )?))
 }

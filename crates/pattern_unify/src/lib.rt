@@ -6,4 +6,4 @@ mod equation;
 mod fitting;
 
 pub use equation::Equation;
-pub use fitting::fit;
+pub use fitting::{fit, fit_into};
