@@ -6,8 +6,8 @@ use Rattle.std.proofs.lemmas.List.Sums.{sum_by-set}
 use Rattle.std.proofs.lemmas.Option.{get_or_from_slice_get, slice_get-get_or, slice_get_past, slice_get_within}
 use Rattle.std.specs.List.{AllByRecursion, count_by}
 use Rattle.binding_terms.specs.Numbered.{AllNumbered, AnyByRecursion}
-use Rattle.binding_terms.specs.Reach.{Follows, HasMarkedSlot, IsClosed, IsColumn, IsMarked, IsReachTable}
-use Rattle.binding_terms.specs.Signature.{Signature, Place, Fits, HasSlot, HasVariable, ProdFits, Reaches, itself, through_slot, slots}
+use Rattle.binding_terms.specs.Reach.{Follows, IsClosed, IsColumn, IsMarked, IsReachTable}
+use Rattle.binding_terms.specs.Signature.{Signature, Place, HasVariable, ProdFits, Reaches, itself, through_slot, slots}
 use Rattle.binding_terms.specs.declared.grammar.Prod.{Prod}
 
 -- marks after one was set

@@ -1,5 +1,5 @@
-use Rattle.std.proofs.Common.{◌≡◌, ◌<◌, length, false, Some, slice_get, MatchBool, subst, refl, arith}
-use Rattle.binding_terms.specs.Reach.{HasMarkedSlot, IsMarked}
+use Rattle.std.proofs.Common.{◌≡◌, ◌<◌, length, false, Some, slice_get, refl, arith}
+use Rattle.binding_terms.specs.Reach.{HasMarkedSlot}
 use Rattle.binding_terms.proofs.Reaching.{any_at}
 use Rattle.binding_terms.proofs.reach.next_mark.Goals as goal
 

@@ -1,4 +1,4 @@
-use Rattle.std.proofs.Common.{◌<◌, ◌↔◌, drop, length}
+use Rattle.std.proofs.Common.{◌<◌, drop, length}
 use Rattle.std.specs.List.{AllByRecursion}
 use Rattle.binding_terms.specs.Reach.{IsClosed}
 use Rattle.binding_terms.proofs.reach.next_mark.Given as goal

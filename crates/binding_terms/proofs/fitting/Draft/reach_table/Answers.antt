@@ -1,7 +1,6 @@
 use Rattle.std.proofs.Common.{◌≡◌, ◌+◌, ◌∙◌, ap, subst, length, ◌++◌, ◌∷◌, [], arith}
 use Rattle.std.proofs.lemmas.List.{length_push}
 use Rattle.binding_terms.specs.Draft.{drafted}
-use Rattle.binding_terms.specs.Numbered.{AllNumbered}
 use Rattle.binding_terms.specs.Reach.{IsColumn}
 use Rattle.binding_terms.proofs.Reaching.{AllNumbered-push, columns_are_table}
 use Rattle.binding_terms.proofs.fitting.Draft.reach_table.Goals as goal
