@@ -2,7 +2,6 @@
 use Rattle.std.proofs.Common.{◌≡◌, ◌⊎◌, ℕ, ◌+◌, ◌-◌, ◌<◌, ◌≤◌, inl, inr, refl, ap, ◌∙◌, sym, arith}
 use Rattle.std.proofs.lemmas.Bool.{cases_lt, cases_order}
 use Rattle.std.proofs.lemmas.Bool.Decides.{nat_tests}
-use Rattle.binding_terms.specs.Laws.{PutShifts, PutPuts}
 use Rattle.binding_terms.specs.Tree.{Tree, var, con, Args, no_args, arg, raised, shifted, shifted_args, put_var, put_in, put_in_args}
 
 raised_below : (cut by i : ℕ) → i < cut → raised cut by i ≡ i
@@ -122,9 +121,3 @@ mutual
       (under ∙ ap (λ w. put_in (j + m) w (put_in (e + m) (shifted (j + m) 1 (shifted 0 m v)) t)) low
       ∙ ap (λ w. put_in (j + m) (shifted 0 m (put_in a v u)) (put_in (e + m) w t)) high)
       ∙ ap (arg m (put_in (j + m) (shifted 0 m (put_in a v u)) (put_in (e + m) (shifted 0 m (shifted j 1 v)) t))) (put_put_args j a e h k v u xs)
-
-pub put_shifts : PutShifts
-put_shifts t u a = put_shifted a u t
-
-pub put_puts : PutPuts
-put_puts t u v a = put_put 0 a (a + 1) (omega arith) refl v u t

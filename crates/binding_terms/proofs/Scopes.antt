@@ -5,9 +5,9 @@ use Rattle.std.proofs.lemmas.Bool.Decides.{nat_tests}
 use Rattle.std.proofs.lemmas.List.{length-map, length-reverse}
 use Rattle.binding_terms.specs.Tree.{Tree, var, con, Args, no_args, arg, raised, shifted, shifted_args, put_var}
 use Rattle.binding_terms.specs.Signature.{Signature, Place, slots, binders}
-use Rattle.binding_terms.specs.Scope.{bound, IsTerm, AreParts}
+use Rattle.binding_terms.specs.Scope.{bound, IsTerm, AreParts, Fills}
 use Rattle.binding_terms.specs.Substitution.{under, filled, filled_args}
-use Rattle.binding_terms.specs.Laws.{ShiftKeepsScope, PutKeepsScope}
+use Rattle.binding_terms.specs.Laws.{ShiftKeepsScope, PutKeepsScope, FilledKeepsScope}
 use Rattle.binding_terms.proofs.Frames.{append_within, append_beyond}
 use Rattle.binding_terms.proofs.Filling.{under_at, under_past}
 use Rattle.binding_terms.proofs.Puts.{put_below, put_here, put_above}
@@ -28,7 +28,7 @@ raised_get inner new outer i (inr h) =
     ∙ append_beyond new outer (i + length new - length inner) (omega arith)
     ∙ ap (slice_get outer) (let k : i + length new - length inner - length new ≡ i - length inner = omega arith in k) ∙ sym (append_beyond inner outer i h)
 
-length_bound : (bs binds : List ℕ) → length (bound bs binds) ≡ length binds
+pub length_bound : (bs binds : List ℕ) → length (bound bs binds) ≡ length binds
 length_bound bs binds = length-reverse (map (slice_index bs) binds) ∙ length-map binds (slice_index bs)
 
 module _ (sig : Signature) (new outer : List ℕ) where
@@ -57,11 +57,7 @@ module _ (sig : Signature) (new outer : List ℕ) where
           AreParts-shift inner bs ss xs h.2,
         )
 
--- terms of the scope's categories are put in for its variables
-abbrev pub Fills : Signature → (from to : List ℕ) → (ℕ → Tree) → Type 0
-Fills sig from to f = (i cat : ℕ) → slice_get from i ≡ Some cat → IsTerm sig to cat (f i)
-
--- and so under the binders of a slot
+-- what fills a scope fills it under the binders of a slot
 pub Fills-under : (sig : Signature) (own from to : List ℕ) (f : ℕ → Tree) → Fills sig from to f → Fills sig (own ++ from) (own ++ to) (under (length own) f)
 Fills-under sig own from to f fills i cat is = at (cases_lt i (length own))
   where
@@ -117,3 +113,6 @@ pub put_keeps_scope : PutKeepsScope
 put_keeps_scope sig inner outer cat of t u h k =
     subst (IsTerm sig (inner ++ outer) cat) (sym (put_is_filled (length inner) u t))
     (IsTerm-filled sig (inner ++ of ∷ outer) (inner ++ outer) (put_var (length inner) u) (Fills-put sig inner outer of u k) cat t h)
+
+pub filled_keeps_scope : FilledKeepsScope
+filled_keeps_scope sig from to cat t f fills h = IsTerm-filled sig from to f fills cat t h

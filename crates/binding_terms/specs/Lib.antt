@@ -4,6 +4,8 @@ pub mod Falls
 pub mod Frames
 pub mod Laws
 pub mod Numbered
+pub mod Occurs
+pub mod Reach
 pub mod Scope
 pub mod Signature
 pub mod Substitution

@@ -74,7 +74,7 @@ impl<'a> Draft<'a> {
     {
         for item in items {
             if let Item::Binder(cat) = item {
-                if !self.has_variable(*cat) {
+                if !self.has_variable(cat.0 as usize) {
                     return false;
                 }
             }
@@ -82,10 +82,11 @@ impl<'a> Draft<'a> {
         true
     }
 
-    pub(crate) fn has_variable(&self, cat: CatId) -> bool
-        ensures { IsTrue result ↔ HasVariable (drafted self.now) cat.0 }
+    /// Whether the category with this number has a variable.
+    pub(crate) fn has_variable(&self, number: usize) -> bool
+        ensures { IsTrue result ↔ HasVariable (drafted self.now) number }
     {
-        match at(self.cats, cat.0 as usize) {
+        match at(self.cats, number) {
             Some(cat) => cat.var.is_some(),
             None => false,
         }

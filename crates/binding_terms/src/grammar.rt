@@ -1,8 +1,9 @@
 ghost use Rattle.std.specs.Prelude.{◌≡◌, ◌↔◌, IfOk, IsTrue, slice_get, slice_index};
 ghost use Rattle.std.specs.Option.{option_copied};
-ghost use Rattle.binding_terms.specs.Signature.{Fits, binders};
+ghost use Rattle.binding_terms.specs.Signature.{Fits, Reaches, binders};
 
 use crate::fitting::Draft;
+use crate::reach::is_marked;
 use crate::text::{NoMemory, Text};
 use sqlite_items::{Items, at};
 use std::alloc::Global;
@@ -41,16 +42,20 @@ pub struct Prod {
 pub struct Sig {
     cats: Vec<Cat>,
     prods: Vec<Prod>,
+    // For each category, which categories reach it.
+    columns: Vec<Items<bool>>,
 }
 
 impl Model for Sig {
     ghost use Rattle.binding_terms.specs.Signature.{Signature, Fits};
+    ghost use Rattle.binding_terms.specs.Reach.{IsReachTable};
 
     ghost Value = { Signature };
 
     ghost view = { λ s. record { cats = s.cats.items; prods = s.prods.items } };
 
-    ghost invariant = { λ s. Fits (record { cats = s.cats.items; prods = s.prods.items }) };
+    ghost invariant = { λ s. Fits (record { cats = s.cats.items; prods = s.prods.items })
+        × IsReachTable (record { cats = s.cats.items; prods = s.prods.items }) s.columns.items };
 }
 
 impl Sig {
@@ -66,29 +71,40 @@ impl Sig {
     }
 
     /// The signature of categories and productions that fit.
-    pub fn make(_alloc: Global, cats: Vec<Cat>, prods: Vec<Prod>) -> Result<Sig, NoMemory>
+    pub fn make(alloc: Global, cats: Vec<Cat>, prods: Vec<Prod>) -> Result<Sig, NoMemory>
         requires { Fits (record { cats = cats.items; prods = prods.items }) }
         ensures cats { IfOk result (λ sig. sig.cats ≡ cats.items) }
         ensures prods { IfOk result (λ sig. sig.prods ≡ prods.items) }
     {
-        Ok(Sig { cats, prods })
+        let draft = Draft {
+            cats: cats.as_slice(),
+            prods: prods.as_slice(),
+        };
+        let columns = draft.reach_table(alloc)?;
+        Ok(Sig {
+            cats,
+            prods,
+            columns,
+        })
     }
 
+    /// The categories, which fit with the productions.
     pub fn cats(&self) -> &Vec<Cat>
-        ensures { result.now.items ≡ self.now.cats }
+        ensures value { result.now.items ≡ self.now.cats }
+        ensures fits { Fits self.now }
     {
         &self.cats
     }
 
+    /// The productions, which fit with the categories.
     pub fn prods(&self) -> &Vec<Prod>
-        ensures { result.now.items ≡ self.now.prods }
+        ensures value { result.now.items ≡ self.now.prods }
+        ensures fits { Fits self.now }
     {
         &self.prods
     }
-}
 
-impl Sig {
-    /// The production of that number.
+    /// The production of that number, or `None` where there is none.
     pub fn prod(&self, id: ProdId) -> Option<&Prod>
         ensures { option_copied result ≡ slice_get self.now.prods id.0 }
     {
@@ -100,6 +116,16 @@ impl Sig {
         ensures { Fits self.now }
     {
         let _ = &self.prods;
+    }
+
+    /// Whether a term of the first category can hold a variable of the second.
+    pub fn reaches(&self, from: CatId, to: CatId) -> bool
+        ensures { IsTrue result ↔ Reaches self.now from.0 to.0 }
+    {
+        match at(self.columns.as_slice(), to.0 as usize) {
+            Some(marks) => is_marked(marks.as_slice(), from),
+            None => false,
+        }
     }
 }
 

@@ -17,10 +17,11 @@ pub enum Term {
     Con(ProdId, ArgList),
 }
 
-/// Arguments that several terms may share, and a bound of their free variables.
+/// Arguments that several terms may share, with a bound of their free variables and their size.
 #[cycle(term)]
 pub struct ArgList {
     bound: usize,
+    size: u64,
     pub(crate) items: Rc<Vec<Arg>>,
 }
 
@@ -44,7 +45,10 @@ impl Model for ArgList {
 
     ghost view = { λ a. args_tree a.items.value.items };
 
-    ghost invariant = { λ a. Bounds a.bound (free_args (args_tree a.items.value.items)) };
+    ghost use Rattle.std.specs.Prelude.{◌≡◌, ◌-◌, ◌^◌, min};
+
+    ghost invariant = { λ a. Bounds a.bound (free_args (args_tree a.items.value.items))
+        × (a.size ≡ min (arg_nodes (args_tree a.items.value.items)) (2 ^ 64 - 1)) };
 
     ghost size = { arg_nodes };
 
@@ -83,17 +87,15 @@ fn drop_all(items: Vec<Arg>) {
 }
 
 /// The number of nodes, or `u64::MAX` where it is larger.
-#[cycle(size)]
 pub fn size(t: &Term) -> u64
     ensures { result ≡ min (nodes (tree t.now)) (2 ^ 64 - 1) }
 {
     match t {
         Term::Var(_) => 1,
-        Term::Con(_, args) => size_all(args.items.as_slice()).saturating_add(1),
+        Term::Con(_, args) => args.size().saturating_add(1),
     }
 }
 
-#[cycle(size)]
 #[tactic(auto, using(crate::proofs::Args::done_nodes))]
 fn size_all(args: &[Arg]) -> u64
     ensures { result ≡ min (arg_nodes (args_tree args.now)) (2 ^ 64 - 1) }
@@ -121,8 +123,9 @@ impl ArgList {
         ensures { IfOk result (λ new. new ≡ args_tree items.items) }
     {
         let bound = bound_all(items.as_slice());
+        let size = size_all(items.as_slice());
         let items = Rc::new(alloc, items)?;
-        Ok(ArgList { bound, items })
+        Ok(ArgList { bound, size, items })
     }
 
     pub fn items(&self) -> &[Arg]
@@ -134,7 +137,11 @@ impl ArgList {
     fn open(self) -> Rc<Vec<Arg>>
         ensures { args_tree result.value.items ≡ self }
     {
-        let ArgList { bound: _, items } = self;
+        let ArgList {
+            bound: _,
+            size: _,
+            items,
+        } = self;
         items
     }
 
@@ -145,8 +152,16 @@ impl ArgList {
         let items = self.items.clone()?;
         Ok(ArgList {
             bound: self.bound,
+            size: self.size,
             items,
         })
+    }
+
+    /// The number of nodes, or `u64::MAX` where it is larger.
+    fn size(&self) -> u64
+        ensures { result ≡ min (arg_nodes self.now) (2 ^ 64 - 1) }
+    {
+        self.size
     }
 
     /// A bound of the free variables, or `usize::MAX`.
