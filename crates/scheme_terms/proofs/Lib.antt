@@ -8,6 +8,7 @@ pub mod Options
 pub mod Parts
 pub mod RaisedInstances
 pub mod SchemeFacts
+pub mod SchemeFilling
 pub mod StrictAgreements
 pub mod TermScopes
 pub mod Values
