@@ -1,4 +1,5 @@
 pub mod AppliedInstances
+pub mod AppliedSchemes
 pub mod Arguments
 pub mod DistinctLocals
 pub mod Followed
@@ -9,6 +10,7 @@ pub mod Parts
 pub mod RaisedInstances
 pub mod SchemeFacts
 pub mod SchemeFilling
+pub mod SchemeSubstitutions
 pub mod StrictAgreements
 pub mod TermScopes
 pub mod Values

@@ -1,13 +1,14 @@
 -- What instances and substitutions keep, and how one goes after another.
-use Rattle.std.specs.Prelude.{◌≡◌, ℕ, List, [], ◌++◌, length, slice_get}
+use Rattle.std.specs.Prelude.{◌≡◌, ℕ, ◌+◌, ◌≤◌, List, [], ◌++◌, length, slice_get}
+use Rattle.std.specs.List.{AllByRecursion}
 use Rattle.binding_terms.specs.Signature.{Signature, Fits}
 use Rattle.binding_terms.specs.Scope.{IsTerm}
-use Rattle.scheme_terms.specs.SchemeTree.{SchemeTree, StrictIn}
+use Rattle.scheme_terms.specs.SchemeTree.{SchemeTree, shifted, StrictIn}
 use Rattle.scheme_terms.specs.Forms.{Names, Substitution, Instance}
 use Rattle.scheme_terms.specs.Context.{scope_of}
 use Rattle.scheme_terms.specs.Instance.{instance_of, value_of, FitsScope}
 use Rattle.scheme_terms.specs.SchemeScope.{IsScheme, IsRoot}
-use Rattle.scheme_terms.specs.Substituting.{applied, followed, Suits, IsSaturated, LocalsBelow, IsSubstitution}
+use Rattle.scheme_terms.specs.Substituting.{applied, composed, followed, Suits, IsSaturated, LocalsBelow, IsSubstitution}
 use Rattle.scheme_terms.specs.declared.scheme.MetaDecl.{MetaDecl}
 
 -- the instance of a scheme in which schemes were put in is the instance of the scheme under the substitution followed by the instance
@@ -47,3 +48,20 @@ StrictAgreementInScope =
     (sig : Signature) (scope : Names) (first second : Instance) (locals : List ℕ) (c m : ℕ) (s : SchemeTree) →
     FitsScope sig scope first → FitsScope sig scope second → IsScheme sig scope locals c s → StrictIn m s →
     instance_of first (length locals) s ≡ instance_of second (length locals) s → slice_get first.metas m ≡ slice_get second.metas m
+
+-- a scheme whose names have values suits all locals around it alike
+abbrev pub AppliedAnywhere : Type 0
+AppliedAnywhere =
+    (by : Substitution) (d e : ℕ) (s : SchemeTree) → Suits by.metas by.knowns s → applied by.metas by.knowns d s ≡ applied by.metas by.knowns e s
+
+-- raising a scheme and putting in go in either order
+abbrev pub AppliedRaised : Type 0
+AppliedRaised =
+    (by : Substitution) (cut d n : ℕ) (s : SchemeTree) → cut ≤ d →
+    applied by.metas by.knowns (d + n) (shifted cut n s) ≡ shifted cut n (applied by.metas by.knowns d s)
+
+-- one substitution after another is their composition
+abbrev pub AppliedTwice : Type 0
+AppliedTwice =
+    (first after : Substitution) (d : ℕ) (s : SchemeTree) → Suits first.metas first.knowns s → AllByRecursion (Suits after.metas after.knowns) first.metas →
+    applied after.metas after.knowns d (applied first.metas first.knowns d s) ≡ applied (composed first after).metas (composed first after).knowns d s

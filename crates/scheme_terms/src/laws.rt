@@ -1,6 +1,6 @@
 //! What instances and substitutions keep, and how one goes after another. The functions do nothing: their contracts are the laws.
 
-ghost use Rattle.scheme_terms.specs.Laws.{InstanceOfApplied, InstanceOfAppliedScheme, InstanceKeepsScope, InstanceKeepsScopeOfMetas, StrictAgreement, StrictAgreementInScope};
+ghost use Rattle.scheme_terms.specs.Laws.{InstanceOfApplied, InstanceOfAppliedScheme, InstanceKeepsScope, InstanceKeepsScopeOfMetas, StrictAgreement, StrictAgreementInScope, AppliedAnywhere, AppliedRaised, AppliedTwice};
 
 /// The instance of a scheme in which schemes were put in.
 #[tactic(auto, using(crate::proofs::Followed::instance_of_applied, crate::proofs::Followed::instance_of_applied_scheme))]
@@ -21,4 +21,17 @@ pub fn instance_keeps_scope()
 pub fn strict_agreement()
     ensures of_locals { StrictAgreement }
     ensures in_scope { StrictAgreementInScope }
+{}
+
+/// The locals around a scheme do not count where each name has a value, and raising goes before or after.
+#[tactic(auto, using(crate::proofs::AppliedSchemes::applied_anywhere_law, crate::proofs::AppliedSchemes::applied_raised_law))]
+pub fn applied_under_locals()
+    ensures anywhere { AppliedAnywhere }
+    ensures raised { AppliedRaised }
+{}
+
+/// One substitution after another is their composition.
+#[tactic(auto, using(crate::proofs::AppliedSchemes::applied_twice_law))]
+pub fn applied_twice()
+    ensures of_names { AppliedTwice }
 {}

@@ -195,3 +195,51 @@ fn apply_parts(
     }
     Ok(all)
 }
+
+/// The scheme with schemes put in for its names: a metavariable's with its parameters replaced by the arguments there, the last
+/// parameter innermost. A name without a value stands for the local 0, or for itself. `NoMemory` also where an index would pass
+/// `usize::MAX`.
+#[tactic(auto, using(crate::proofs::AppliedSchemes::applied_anywhere))]
+pub fn apply(alloc: Global, s: &Scheme, by: &Subst) -> Result<Scheme, NoMemory>
+    ensures value { IfOk result (λ new. scheme new ≡ applied (substitution by.now).metas (substitution by.now).knowns 0 (scheme s.now)) }
+    ensures under_locals { Suits (substitution by.now).metas (substitution by.now).knowns (scheme s.now) → (locals : ℕ) →
+        IfOk result (λ new. scheme new ≡ applied (substitution by.now).metas (substitution by.now).knowns locals (scheme s.now)) }
+{
+    apply_under(alloc, s, by, 0)
+}
+
+#[tactic(auto, using(std::proofs::lemmas::List::take_all))]
+fn compose_metas(alloc: Global, metas: &[Scheme], after: &Subst) -> Result<Items<Scheme>, NoMemory>
+    ensures { IfOk result (λ all. map scheme all ≡ map (applied (substitution after.now).metas (substitution after.now).knowns 0) (map scheme metas.now)) }
+{
+    let mut all = Items::new(alloc);
+    for value in metas {
+        all.push(apply_under(alloc, value, after, 0)?)?;
+    }
+    Ok(all)
+}
+
+#[tactic(auto, using(std::proofs::lemmas::List::take_all))]
+fn compose_knowns(alloc: Global, knowns: &[u32], after: &Subst) -> Result<Items<u32>, NoMemory>
+    ensures { IfOk result (λ all. all ≡ map (known_for (substitution after.now).knowns) knowns.now) }
+{
+    let mut all = Items::new(alloc);
+    for value in knowns {
+        all.push(known_value(after, *value))?;
+    }
+    Ok(all)
+}
+
+/// One substitution after another: what `after` makes of each value of `first`.
+pub fn compose(alloc: Global, first: &Subst, after: &Subst) -> Result<Subst, NoMemory>
+    ensures { IfOk result (λ new. substitution new ≡ composed (substitution first.now) (substitution after.now)) }
+{
+    let metas = compose_metas(alloc, first.metas.as_slice(), after)?;
+    let knowns = compose_knowns(alloc, first.knowns.as_slice(), after)?;
+    let into = copy_scope(alloc, &after.into)?;
+    Ok(Subst {
+        metas,
+        knowns,
+        into,
+    })
+}
