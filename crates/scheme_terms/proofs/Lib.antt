@@ -10,6 +10,7 @@ pub mod Parts
 pub mod RaisedInstances
 pub mod SchemeFacts
 pub mod SchemeFilling
+pub mod SchemeScopes
 pub mod SchemeSubstitutions
 pub mod StrictAgreements
 pub mod TermScopes

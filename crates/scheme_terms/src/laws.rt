@@ -1,6 +1,6 @@
 //! What instances and substitutions keep, and how one goes after another. The functions do nothing: their contracts are the laws.
 
-ghost use Rattle.scheme_terms.specs.Laws.{InstanceOfApplied, InstanceOfAppliedScheme, InstanceKeepsScope, InstanceKeepsScopeOfMetas, StrictAgreement, StrictAgreementInScope, AppliedAnywhere, AppliedRaised, AppliedTwice};
+ghost use Rattle.scheme_terms.specs.Laws.{InstanceOfApplied, InstanceOfAppliedScheme, InstanceKeepsScope, InstanceKeepsScopeOfMetas, StrictAgreement, StrictAgreementInScope, AppliedAnywhere, AppliedRaised, AppliedTwice, ShiftKeepsScheme, ApplyKeepsScope};
 
 /// The instance of a scheme in which schemes were put in.
 #[tactic(auto, using(crate::proofs::Followed::instance_of_applied, crate::proofs::Followed::instance_of_applied_scheme))]
@@ -34,4 +34,16 @@ pub fn applied_under_locals()
 #[tactic(auto, using(crate::proofs::AppliedSchemes::applied_twice_law))]
 pub fn applied_twice()
     ensures of_names { AppliedTwice }
+{}
+
+/// Raising keeps the category of a scheme, in the locals with what it was raised over.
+#[tactic(auto, using(crate::proofs::SchemeScopes::shift_keeps_scheme))]
+pub fn shift_keeps_scheme()
+    ensures { ShiftKeepsScheme }
+{}
+
+/// What a substitution makes of a scheme is a scheme of its category.
+#[tactic(auto, using(crate::proofs::SchemeScopes::apply_keeps_scope))]
+pub fn apply_keeps_scope()
+    ensures { ApplyKeepsScope }
 {}
