@@ -104,16 +104,16 @@ module _ (sig : Signature) (names : Names) (inst : Instance) (metas : AllZip (Is
              (subst (λ d. IsTerm sig ((own ++ ls) ++ scope_of sig inst.root) at.cat (instance_of inst d s)) deep body),
          instance_parts ls bs ss xs h.2)
 
-place_some : (sig : Signature) (inst : Instance) (decl : KnownVariable) (o : Option ℕ) → IsKnownPlace inst decl o →
+pub place_some : (inst : Instance) (decl : KnownVariable) (o : Option ℕ) → IsKnownPlace inst decl o →
     MatchOption (slice_get inst.root.entries (unwrap_or o 0)) ⊥ (IsEntryOf inst (unwrap_or o 0) decl.entry)
-place_some sig inst decl None h = absurd h
-place_some sig inst decl (Some at) h = h
+place_some inst decl None h = absurd h
+place_some inst decl (Some at) h = h
 
 knowns_stand : (sig : Signature) (scope : Names) (inst : Instance) → Fits sig → IsRoot sig scope.root → FitsScope sig scope inst → KnownsStand sig scope inst
 knowns_stand sig scope inst fits of_context h k c is =
     let found = match_some (slice_get scope.knowns k) (λ decl. variables sig decl.entry.prod ≡ c ∷ []) is in
     let stored = zip_at (IsKnownPlace inst) scope.knowns inst.knowns h.knowns k found.0 found.1 in
-    let placed = match_some (slice_get inst.root.entries (unwrap_or stored.0 0)) (IsEntryOf inst (unwrap_or stored.0 0) found.0.entry) (place_some sig inst found.0 stored.0 stored.2) in
+    let placed = match_some (slice_get inst.root.entries (unwrap_or stored.0 0)) (IsEntryOf inst (unwrap_or stored.0 0) found.0.entry) (place_some inst found.0 stored.0 stored.2) in
     let one : variables sig placed.0.prod ≡ c ∷ [] = ap (variables sig) placed.2.0 ∙ found.2 in
     ap (λ o. slice_get (scope_of sig inst.root) (length inst.root.entries - suc (unwrap_or (unwrap_or o None) 0))) stored.1
     ∙ entry_variable sig inst.root.entries (value_adds_one sig scope.root inst.root fits of_context h.root) [] (unwrap_or stored.0 0) c placed.0 placed.1 one

@@ -1,6 +1,7 @@
 pub mod AppliedInstances
 pub mod AppliedSchemes
 pub mod Arguments
+pub mod Compositions
 pub mod DistinctLocals
 pub mod Followed
 pub mod InstanceScopes
