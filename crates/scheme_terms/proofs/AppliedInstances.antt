@@ -118,7 +118,7 @@ arguments_applied inst d n args same = λ z i. at i (cases_lt i n) z
         outer_past inst d n (argument_or_local d args) i h ∙ ap var e
         ∙ sym (argument_past (var 0) (λ j. var (j + d)) (map (instance_of inst d) args) i (rw length-map (let k : length args ≤ i = omega arith in k)))
 
-value_below : (n : ℕ) (o : Option SchemeTree) → MatchOption o ⊥ (LocalsBelow n) → LocalsBelow n (unwrap_or o (local 0))
+pub value_below : (n : ℕ) (o : Option SchemeTree) → MatchOption o ⊥ (LocalsBelow n) → LocalsBelow n (unwrap_or o (local 0))
 value_below n None h = absurd h
 value_below n (Some s) h = h
 

@@ -5,7 +5,6 @@ use Rattle.std.proofs.lemmas.Bool.{cases_lt}
 use Rattle.std.proofs.lemmas.List.{length-map, length-reverse}
 use Rattle.std.proofs.lemmas.Option.{slice_get_within}
 use Rattle.std.proofs.lemmas.Slice.Zip.{AllZip-long}
-use mathlib.Core.List.{reverse_aux}
 use Rattle.binding_terms.specs.Tree as terms
 use Rattle.binding_terms.specs.Tree.{Tree, var}
 use Rattle.binding_terms.specs.Substitution as filling
@@ -19,17 +18,11 @@ use Rattle.scheme_terms.specs.Instance.{instance_of, instances_of, parts_instanc
 use Rattle.scheme_terms.specs.SchemeScope.{IsScheme, AreValues, AreSchemeParts, IsRoot, params_scope}
 use Rattle.scheme_terms.specs.Laws.{InstanceKeepsScope, InstanceKeepsScopeOfMetas}
 use Rattle.scheme_terms.specs.declared.scheme.MetaDecl.{MetaDecl}
-use Rattle.scheme_terms.proofs.Options.{match_some, match_at, match_from, zip_at}
+use Rattle.scheme_terms.proofs.Options.{match_some, match_from, zip_at, zip_reverse}
 use Rattle.scheme_terms.proofs.Arguments.{argument_at, argument_past}
 use Rattle.scheme_terms.proofs.SchemeFacts.{length_params, length_bound}
 use Rattle.scheme_terms.proofs.TermScopes.{Fills, IsTerm-filled}
 use Rattle.scheme_terms.proofs.Values.{value_adds_one, entry_variable}
-
-zip_turned : {A B : Type 0} (R : A → B → Type 0) (xs done : List A) (ys bs : List B) → AllZip R xs ys → AllZip R done bs → AllZip R (reverse_aux xs done) (reverse_aux ys bs)
-zip_turned R [] done [] bs h k = k
-zip_turned R [] done (y ∷ ys) bs h k = absurd h
-zip_turned R (x ∷ xs) done [] bs h k = absurd h
-zip_turned R (x ∷ xs) done (y ∷ ys) bs h k = zip_turned R xs (x ∷ done) ys (y ∷ bs) h.1 (h.0, k)
 
 some_value : (P : Tree → Type 0) (o : Option Tree) → MatchOption o ⊥ P → P (unwrap_or o (var 0))
 some_value P None h = absurd h
@@ -53,7 +46,7 @@ module _ (sig : Signature) (names : Names) (inst : Instance) (metas : AllZip (Is
       at (inl below) =
           let within : i < length (reverse cs) = rw length-reverse (let k : i < length cs = omega (arith, long) in k) in
           let here : slice_get (reverse cs) i ≡ Some c = sym (append_within (reverse cs) (scope_of sig inst.root) i within) ∙ is in
-          let found = zip_at (λ c t. IsTerm sig (ls ++ scope_of sig inst.root) c t) (reverse cs) (reverse args) (zip_turned _ cs [] args [] h tt) i c here in
+          let found = zip_at (λ c t. IsTerm sig (ls ++ scope_of sig inst.root) c t) (reverse cs) (reverse args) (zip_reverse _ cs args h) i c here in
           subst (IsTerm sig (ls ++ scope_of sig inst.root) c)
           (sym (argument_at (var 0) (λ j. var (j + length ls)) args i below ∙ ap (λ o. unwrap_or o (var 0)) found.1)) found.2
       at (inr beyond) =
@@ -111,16 +104,16 @@ module _ (sig : Signature) (names : Names) (inst : Instance) (metas : AllZip (Is
              (subst (λ d. IsTerm sig ((own ++ ls) ++ scope_of sig inst.root) at.cat (instance_of inst d s)) deep body),
          instance_parts ls bs ss xs h.2)
 
-place_some : (sig : Signature) (inst : Instance) (decl : KnownVariable) (o : Option ℕ) → IsKnownPlace inst decl o →
+pub place_some : (inst : Instance) (decl : KnownVariable) (o : Option ℕ) → IsKnownPlace inst decl o →
     MatchOption (slice_get inst.root.entries (unwrap_or o 0)) ⊥ (IsEntryOf inst (unwrap_or o 0) decl.entry)
-place_some sig inst decl None h = absurd h
-place_some sig inst decl (Some at) h = h
+place_some inst decl None h = absurd h
+place_some inst decl (Some at) h = h
 
 knowns_stand : (sig : Signature) (scope : Names) (inst : Instance) → Fits sig → IsRoot sig scope.root → FitsScope sig scope inst → KnownsStand sig scope inst
 knowns_stand sig scope inst fits of_context h k c is =
     let found = match_some (slice_get scope.knowns k) (λ decl. variables sig decl.entry.prod ≡ c ∷ []) is in
     let stored = zip_at (IsKnownPlace inst) scope.knowns inst.knowns h.knowns k found.0 found.1 in
-    let placed = match_some (slice_get inst.root.entries (unwrap_or stored.0 0)) (IsEntryOf inst (unwrap_or stored.0 0) found.0.entry) (place_some sig inst found.0 stored.0 stored.2) in
+    let placed = match_some (slice_get inst.root.entries (unwrap_or stored.0 0)) (IsEntryOf inst (unwrap_or stored.0 0) found.0.entry) (place_some inst found.0 stored.0 stored.2) in
     let one : variables sig placed.0.prod ≡ c ∷ [] = ap (variables sig) placed.2.0 ∙ found.2 in
     ap (λ o. slice_get (scope_of sig inst.root) (length inst.root.entries - suc (unwrap_or (unwrap_or o None) 0))) stored.1
     ∙ entry_variable sig inst.root.entries (value_adds_one sig scope.root inst.root fits of_context h.root) [] (unwrap_or stored.0 0) c placed.0 placed.1 one

@@ -1,5 +1,7 @@
 pub mod AppliedInstances
+pub mod AppliedSchemes
 pub mod Arguments
+pub mod Compositions
 pub mod DistinctLocals
 pub mod Followed
 pub mod InstanceScopes
@@ -8,6 +10,9 @@ pub mod Options
 pub mod Parts
 pub mod RaisedInstances
 pub mod SchemeFacts
+pub mod SchemeFilling
+pub mod SchemeScopes
+pub mod SchemeSubstitutions
 pub mod StrictAgreements
 pub mod TermScopes
 pub mod Values

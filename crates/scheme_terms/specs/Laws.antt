@@ -1,13 +1,15 @@
 -- What instances and substitutions keep, and how one goes after another.
-use Rattle.std.specs.Prelude.{◌≡◌, ℕ, List, [], ◌++◌, length, slice_get}
+use Rattle.std.specs.Prelude.{◌≡◌, ℕ, ◌+◌, ◌≤◌, List, [], ◌++◌, length, slice_get}
+use Rattle.std.specs.List.{AllByRecursion}
+use Rattle.binding_terms.specs.Tree as terms
 use Rattle.binding_terms.specs.Signature.{Signature, Fits}
 use Rattle.binding_terms.specs.Scope.{IsTerm}
-use Rattle.scheme_terms.specs.SchemeTree.{SchemeTree, StrictIn}
+use Rattle.scheme_terms.specs.SchemeTree.{SchemeTree, shifted, StrictIn}
 use Rattle.scheme_terms.specs.Forms.{Names, Substitution, Instance}
 use Rattle.scheme_terms.specs.Context.{scope_of}
 use Rattle.scheme_terms.specs.Instance.{instance_of, value_of, FitsScope}
-use Rattle.scheme_terms.specs.SchemeScope.{IsScheme, IsRoot}
-use Rattle.scheme_terms.specs.Substituting.{applied, followed, Suits, IsSaturated, LocalsBelow, IsSubstitution}
+use Rattle.scheme_terms.specs.SchemeScope.{IsScheme, IsRoot, KnownsFit}
+use Rattle.scheme_terms.specs.Substituting.{applied, composed, followed, Suits, IsSaturated, LocalsBelow, IsSubstitution}
 use Rattle.scheme_terms.specs.declared.scheme.MetaDecl.{MetaDecl}
 
 -- the instance of a scheme in which schemes were put in is the instance of the scheme under the substitution followed by the instance
@@ -47,3 +49,58 @@ StrictAgreementInScope =
     (sig : Signature) (scope : Names) (first second : Instance) (locals : List ℕ) (c m : ℕ) (s : SchemeTree) →
     FitsScope sig scope first → FitsScope sig scope second → IsScheme sig scope locals c s → StrictIn m s →
     instance_of first (length locals) s ≡ instance_of second (length locals) s → slice_get first.metas m ≡ slice_get second.metas m
+
+-- a scheme whose names have values suits all locals around it alike
+abbrev pub AppliedAnywhere : Type 0
+AppliedAnywhere =
+    (by : Substitution) (d e : ℕ) (s : SchemeTree) → Suits by.metas by.knowns s → applied by.metas by.knowns d s ≡ applied by.metas by.knowns e s
+
+-- raising a scheme and putting in go in either order
+abbrev pub AppliedRaised : Type 0
+AppliedRaised =
+    (by : Substitution) (cut d n : ℕ) (s : SchemeTree) → cut ≤ d →
+    applied by.metas by.knowns (d + n) (shifted cut n s) ≡ shifted cut n (applied by.metas by.knowns d s)
+
+-- one substitution after another is their composition
+abbrev pub AppliedTwice : Type 0
+AppliedTwice =
+    (first after : Substitution) (d : ℕ) (s : SchemeTree) → Suits first.metas first.knowns s → AllByRecursion (Suits after.metas after.knowns) first.metas →
+    applied after.metas after.knowns d (applied first.metas first.knowns d s) ≡ applied (composed first after).metas (composed first after).knowns d s
+
+-- a scheme keeps its category where it is raised over new locals
+abbrev pub ShiftKeepsScheme : Type 0
+ShiftKeepsScheme =
+    (sig : Signature) (scope : Names) (inner new outer : List ℕ) (c : ℕ) (s : SchemeTree) → IsScheme sig scope (inner ++ outer) c s →
+    IsScheme sig scope (inner ++ (new ++ outer)) c (shifted (length inner) (length new) s)
+
+-- what a substitution makes of a scheme of a category is a scheme of the category in the substitution's scope
+abbrev pub ApplyKeepsScope : Type 0
+ApplyKeepsScope =
+    (sig : Signature) (scope : Names) (by : Substitution) (locals : List ℕ) (c : ℕ) (s : SchemeTree) → IsSubstitution sig scope by →
+    IsScheme sig scope locals c s → IsScheme sig by.into locals c (applied by.metas by.knowns (length locals) s)
+
+-- the instance of a raised scheme
+abbrev pub InstanceRaised : Type 0
+InstanceRaised =
+    (inst : Instance) (cut d n : ℕ) (s : SchemeTree) → cut ≤ d →
+    instance_of inst (d + n) (shifted cut n s) ≡ terms.shifted cut n (instance_of inst d s)
+
+-- one substitution after another, of schemes of a scope
+abbrev pub AppliedTwiceInScope : Type 0
+AppliedTwiceInScope =
+    (sig : Signature) (scope : Names) (first after : Substitution) (locals : List ℕ) (c : ℕ) (s : SchemeTree) →
+    IsSubstitution sig scope first → IsSubstitution sig first.into after → IsScheme sig scope locals c s →
+    applied after.metas after.knowns (length locals) (applied first.metas first.knowns (length locals) s)
+    ≡ applied (composed first after).metas (composed first after).knowns (length locals) s
+
+-- the composition of substitutions is one
+abbrev pub ComposedIsSubstitution : Type 0
+ComposedIsSubstitution =
+    (sig : Signature) (scope : Names) (first after : Substitution) → KnownsFit sig scope →
+    IsSubstitution sig scope first → IsSubstitution sig first.into after → IsSubstitution sig scope (composed first after)
+
+-- a substitution followed by an instance of its scope is an instance of the scope from which it goes, where both have one root
+abbrev pub FollowedFits : Type 0
+FollowedFits =
+    (sig : Signature) (scope : Names) (by : Substitution) (inst : Instance) → Fits sig → IsRoot sig scope.root → KnownsFit sig scope →
+    by.into.root ≡ scope.root → IsSubstitution sig scope by → FitsScope sig by.into inst → FitsScope sig scope (followed scope.metas by inst)
