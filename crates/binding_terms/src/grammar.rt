@@ -111,13 +111,6 @@ impl Sig {
         at(self.prods.as_slice(), id.0 as usize)
     }
 
-    /// Tells a caller's proof what each signature is: of the stated form.
-    pub fn always_fits(&self)
-        ensures { Fits self.now }
-    {
-        let _ = &self.prods;
-    }
-
     /// Whether a term of the first category can hold a variable of the second.
     pub fn reaches(&self, from: CatId, to: CatId) -> bool
         ensures { IsTrue result ↔ Reaches self.now from.0 to.0 }

@@ -1,0 +1,4 @@
+pub mod Coding
+pub mod Falls
+pub mod Parts
+pub mod View
