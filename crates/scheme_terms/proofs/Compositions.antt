@@ -29,7 +29,7 @@ each_map : {A B C : Type 0} (f : A → B) (g : B → C) (xs : List A) → map g 
 each_map f g [] = refl
 each_map f g (x ∷ xs) = ap (λ ys. g (f x) ∷ ys) (each_map f g xs)
 
-abbrev entry_with : ℕ → List SchemeTree → SchemeEntry
+abbrev pub entry_with : ℕ → List SchemeTree → SchemeEntry
 entry_with p ss = record { prod = p; args = ss }
 
 -- functions that agree on schemes of the scope agree on the arguments of an entry
@@ -48,7 +48,7 @@ entry_schemes sig names (Empty c) e h = absurd h
 entry_schemes sig names (Whole c) e h =
     let found = match_some (slice_get sig.prods e.prod) _ h in (drop 1 (slots found.0.items), found.2.2)
 
-same_arguments : {A : Type 0} (sig : Signature) (names : Names) (f g : SchemeTree → A) → ((c : ℕ) (s : SchemeTree) → IsScheme sig names [] c s → f s ≡ g s) →
+pub same_arguments : {A : Type 0} (sig : Signature) (names : Names) (f g : SchemeTree → A) → ((c : ℕ) (s : SchemeTree) → IsScheme sig names [] c s → f s ≡ g s) →
     (e : SchemeEntry) → IsKnownEntry sig names names.root e → map f e.args ≡ map g e.args
 same_arguments sig names f g same e h =
     let found = entry_schemes sig names names.root e h in each_scheme sig names [] f g same found.0 e.args found.1

@@ -1,9 +1,11 @@
+pub mod Agreements
 pub mod AppliedInstances
 pub mod AppliedSchemes
 pub mod Arguments
 pub mod Compositions
 pub mod DistinctLocals
 pub mod Followed
+pub mod Identities
 pub mod InstanceScopes
 pub mod Lists
 pub mod Options

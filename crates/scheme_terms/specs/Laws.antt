@@ -4,12 +4,12 @@ use Rattle.std.specs.List.{AllByRecursion}
 use Rattle.binding_terms.specs.Tree as terms
 use Rattle.binding_terms.specs.Signature.{Signature, Fits}
 use Rattle.binding_terms.specs.Scope.{IsTerm}
-use Rattle.scheme_terms.specs.SchemeTree.{SchemeTree, shifted, StrictIn}
+use Rattle.scheme_terms.specs.SchemeTree.{SchemeTree, shifted, StrictIn, OccursIn, KnownIn}
 use Rattle.scheme_terms.specs.Forms.{Names, Substitution, Instance}
 use Rattle.scheme_terms.specs.Context.{scope_of}
-use Rattle.scheme_terms.specs.Instance.{instance_of, value_of, FitsScope}
+use Rattle.scheme_terms.specs.Instance.{instance_of, value_of, place_of, FitsScope}
 use Rattle.scheme_terms.specs.SchemeScope.{IsScheme, IsRoot, KnownsFit}
-use Rattle.scheme_terms.specs.Substituting.{applied, composed, followed, Suits, IsSaturated, LocalsBelow, IsSubstitution}
+use Rattle.scheme_terms.specs.Substituting.{scheme_for, known_for, applied, composed, followed, identity, Suits, IsSaturated, LocalsBelow, IsSubstitution}
 use Rattle.scheme_terms.specs.declared.scheme.MetaDecl.{MetaDecl}
 
 -- the instance of a scheme in which schemes were put in is the instance of the scheme under the substitution followed by the instance
@@ -104,3 +104,32 @@ abbrev pub FollowedFits : Type 0
 FollowedFits =
     (sig : Signature) (scope : Names) (by : Substitution) (inst : Instance) → Fits sig → IsRoot sig scope.root → KnownsFit sig scope →
     by.into.root ≡ scope.root → IsSubstitution sig scope by → FitsScope sig by.into inst → FitsScope sig scope (followed scope.metas by inst)
+
+-- the identity changes no scheme whose metavariables have their arguments
+abbrev pub IdentityChangesNothing : Type 0
+IdentityChangesNothing =
+    (scope : Names) (d : ℕ) (s : SchemeTree) → IsSaturated scope.metas s → applied (identity scope).metas (identity scope).knowns d s ≡ s
+
+-- so no scheme of the scope
+abbrev pub IdentityKeepsSchemes : Type 0
+IdentityKeepsSchemes =
+    (sig : Signature) (scope : Names) (locals : List ℕ) (c : ℕ) (s : SchemeTree) → IsScheme sig scope locals c s →
+    applied (identity scope).metas (identity scope).knowns (length locals) s ≡ s
+
+-- the identity is a substitution from the scope into itself
+abbrev pub IdentityIsSubstitution : Type 0
+IdentityIsSubstitution = (sig : Signature) (scope : Names) → KnownsFit sig scope → IsSubstitution sig scope (identity scope)
+
+-- substitutions that agree on the names of a scheme make the same of it
+abbrev pub SubstitutionsAgree : Type 0
+SubstitutionsAgree =
+    (first second : Substitution) (d : ℕ) (s : SchemeTree) → ((m : ℕ) → OccursIn m s → scheme_for first.metas m ≡ scheme_for second.metas m) →
+    ((k : ℕ) → KnownIn k s → known_for first.knowns k ≡ known_for second.knowns k) →
+    applied first.metas first.knowns d s ≡ applied second.metas second.knowns d s
+
+-- instances of one length that agree on the names of a scheme give it the same instance
+abbrev pub InstancesAgree : Type 0
+InstancesAgree =
+    (first second : Instance) (d : ℕ) (s : SchemeTree) → length first.root.entries ≡ length second.root.entries →
+    ((m : ℕ) → OccursIn m s → value_of first m ≡ value_of second m) → ((k : ℕ) → KnownIn k s → place_of first k ≡ place_of second k) →
+    instance_of first d s ≡ instance_of second d s

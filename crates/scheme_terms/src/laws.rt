@@ -1,6 +1,6 @@
 //! What instances and substitutions keep, and how one goes after another. The functions do nothing: their contracts are the laws.
 
-ghost use Rattle.scheme_terms.specs.Laws.{InstanceOfApplied, InstanceOfAppliedScheme, InstanceKeepsScope, InstanceKeepsScopeOfMetas, StrictAgreement, StrictAgreementInScope, AppliedAnywhere, AppliedRaised, AppliedTwice, ShiftKeepsScheme, ApplyKeepsScope, AppliedTwiceInScope, ComposedIsSubstitution, FollowedFits, InstanceRaised};
+ghost use Rattle.scheme_terms.specs.Laws.{InstanceOfApplied, InstanceOfAppliedScheme, InstanceKeepsScope, InstanceKeepsScopeOfMetas, StrictAgreement, StrictAgreementInScope, AppliedAnywhere, AppliedRaised, AppliedTwice, ShiftKeepsScheme, ApplyKeepsScope, AppliedTwiceInScope, ComposedIsSubstitution, FollowedFits, InstanceRaised, SubstitutionsAgree, InstancesAgree, IdentityChangesNothing, IdentityKeepsSchemes, IdentityIsSubstitution};
 
 /// The instance of a scheme in which schemes were put in.
 #[tactic(auto, using(crate::proofs::Followed::instance_of_applied, crate::proofs::Followed::instance_of_applied_scheme))]
@@ -65,4 +65,19 @@ pub fn shift_keeps_scheme()
 #[tactic(auto, using(crate::proofs::SchemeScopes::apply_keeps_scope))]
 pub fn apply_keeps_scope()
     ensures { ApplyKeepsScope }
+{}
+
+/// What is the same on the names of a scheme makes the same of it.
+#[tactic(auto, using(crate::proofs::Agreements::substitutions_agree, crate::proofs::Agreements::instances_agree))]
+pub fn names_decide()
+    ensures substitutions { SubstitutionsAgree }
+    ensures instances { InstancesAgree }
+{}
+
+/// The identity is a substitution and changes nothing.
+#[tactic(auto, using(crate::proofs::Identities::identity_changes_nothing, crate::proofs::Identities::identity_keeps_schemes, crate::proofs::Identities::identity_is_substitution))]
+pub fn identity_changes_nothing()
+    ensures of_names { IdentityChangesNothing }
+    ensures in_scope { IdentityKeepsSchemes }
+    ensures keeps_scope { IdentityIsSubstitution }
 {}
