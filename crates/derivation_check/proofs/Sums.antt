@@ -1,9 +1,9 @@
 -- What is counted over the premises.
-use Rattle.std.proofs.Common.{◌≡◌, ℕ, suc, ◌+◌, ◌-◌, ◌^◌, ◌<◌, ◌≤◌, min, max, List, [], ◌∷◌, ◌++◌, length, get_or, take, sum_by, refl, ap, ◌∙◌, sym, subst, arith}
+use Rattle.std.proofs.Common.{◌≡◌, ℕ, ◌+◌, ◌-◌, ◌^◌, ◌<◌, ◌≤◌, min, max, List, [], ◌∷◌, ◌++◌, length, get_or, take, sum_by, refl, ap, ◌∙◌, sym, subst, arith}
 use Rattle.std.specs.Prelude.{Option, Some, None, MatchOption}
 use Rattle.std.proofs.lemmas.List.Sums.{sum_by-cons}
 use Rattle.std.proofs.lemmas.List.{take_all, take_more}
-use Rattle.rule_schemes.specs.Derivation.{Derivation, Subtrees, size, sizes, height, heights}
+use Rattle.rule_schemes.specs.Derivation.{Derivation, size, sizes, height, heights}
 use Rattle.rule_schemes.specs.Rules.{JudgmentValue}
 use Rattle.rule_schemes.specs.View.{judgment_value}
 use Rattle.derivation_check.specs.Parts.{subtrees_of, listed, premises_of}

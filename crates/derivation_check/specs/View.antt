@@ -1,5 +1,5 @@
 -- The plain tree that a derivation is.
-use Rattle.std.specs.Prelude.{◌≡◌, ℕ, ◌-◌, ◌^◌, min, List, [], Option, Some, None, MatchOption}
+use Rattle.std.specs.Prelude.{◌≡◌, ℕ, ◌-◌, ◌^◌, min, [], Option, Some, None, MatchOption}
 use Rattle.rule_schemes.specs.Rules.{JudgmentValue}
 use Rattle.rule_schemes.specs.View.{judgment_value}
 use Rattle.rule_schemes.specs.Derivation.{Derivation, node, leaf, Subtrees, size, height}

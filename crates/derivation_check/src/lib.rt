@@ -4,3 +4,6 @@
 mod deriv;
 
 pub use deriv::Deriv;
+
+#[cfg(test)]
+mod tests;

@@ -1,7 +1,6 @@
-use Rattle.std.proofs.Common.{◌∙◌, sym, ap, subst, ◌<◌}
+use Rattle.std.proofs.Common.{sym, subst, ◌<◌}
 use Rattle.rule_schemes.specs.Derivation.{Derivation, size, sizes}
 use Rattle.derivation_check.specs.Parts.{subtrees_of}
-use Rattle.derivation_check.specs.View.{IsCounted}
 use Rattle.derivation_check.specs.declared.deriv.Node.{Node}
 use Rattle.derivation_check.proofs.Sums.{sizes_fall}
 use Rattle.derivation_check.proofs.deriv.last_premises.Goals as goal
