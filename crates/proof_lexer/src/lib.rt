@@ -1,6 +1,14 @@
 //! The tokens of a text, lent from it.
 #![tactic(auto)]
 
+mod characters;
+mod cursor;
+mod fault;
+mod front;
+mod lexer;
+mod run;
 mod token;
 
+pub use fault::LexFault;
+pub use lexer::lex;
 pub use token::{Kind, Token};

@@ -1,0 +1,13 @@
+use Rattle.std.proofs.Common.{◌≡◌, ◌+◌, ◌≤◌, length, map}
+use Rattle.std.specs.Str.{chars}
+use Rattle.sy_base.specs.Tokens.{Stretch, start}
+use Rattle.proof_lexer.specs.View.{token_view}
+use Rattle.proof_lexer.specs.Front.{spot_of}
+use Rattle.proof_lexer.proofs.lexer.lex.Given as goal
+
+-- the tokens so far are those up to the cursor
+abbrev pub invariant-loop-first : goal.invariant-loop-first
+invariant-loop-first l = ?
+
+abbrev pub decreases-loop-first : goal.decreases-loop-first
+decreases-loop-first l = length l.at.rest.now
