@@ -1,3 +1,4 @@
 pub mod FrontLemmas
 pub mod TextLemmas
 pub mod CursorLemmas
+pub mod LexLemmas

@@ -1,6 +1,6 @@
 -- What the parts of the scanner answer, over the characters of a text.
-use Rattle.std.specs.Prelude.{◌≡◌, ℕ, Bool, List, [], ◌∷◌, ◌++◌, chars}
-use Rattle.sy_base.specs.Tokens.{goes_on_line, goes_on_comment, goes_on_quoted, goes_on_word, goes_on_symbol, IsLongestRun, IsOpenQuote, Piece, gap, token, Stands, Spot}
+use Rattle.std.specs.Prelude.{◌≡◌, ℕ, Bool, List, [], ◌∷◌, ◌++◌, chars, IsUtf8, ◌+◌, ◌≤◌}
+use Rattle.sy_base.specs.Tokens.{goes_on_line, goes_on_comment, goes_on_quoted, goes_on_word, goes_on_symbol, IsLongestRun, IsOpenQuote, Piece, gap, token, Stands, Spot, past}
 use Rattle.proof_lexer.specs.View.{kind_number}
 use Rattle.proof_lexer.specs.declared.run.Run.{Run}
 use Rattle.proof_lexer.specs.declared.run.Run.TheVariants.{Line, Comment, Quoted, Word, Symbol}
@@ -48,10 +48,16 @@ pub record OpensQuote (whole : List ℕ) : Type 0 where
 -- what stands at the front of these characters
 abbrev pub IsFront : List ℕ → Front → Type 0
 IsFront whole (Gap rest) = StandsBefore whole gap (chars rest.now)
-IsFront whole (Token kind text rest) = StandsBefore whole (token (kind_number kind) (chars text.now)) (chars rest.now)
+IsFront whole (Token kind text rest) = IsUtf8 text.now × StandsBefore whole (token (kind_number kind) (chars text.now)) (chars rest.now)
 IsFront whole OpenComment = OpensComment whole
 IsFront whole OpenQuote = OpensQuote whole
 
 -- the spot of a cursor
 abbrev pub spot_of : Cursor → Spot
 spot_of cursor = record { place = cursor.place; line = cursor.line; rest = chars cursor.rest.now }
+
+-- a cursor goes from one spot past what stands there to the next, with so many bytes left
+pub record GoesPast (at next : Spot) (left next_left : ℕ) : Type 0 where
+  pub spot : (taken : List ℕ) → at.rest ≡ taken ++ next.rest → next ≡ past at taken next.rest
+  pub sizes : next.place + next_left ≡ at.place + left
+  pub line : next.line ≤ next.place + 1

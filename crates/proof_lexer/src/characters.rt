@@ -55,7 +55,9 @@ fn text_of(bytes: &[u8]) -> &str
 
 // The text up to the first byte that belongs to no character, and the bytes from there on.
 pub(crate) fn decoded<'a>(source: &'a [u8]) -> (&'a str, &'a [u8])
-    ensures { IsDecoded source.now (chars result.0.now) result.1.now }
+    ensures decoded { IsDecoded source.now (chars result.0.now) result.1.now }
+    ensures utf8 { IsUtf8 result.0.now }
+    ensures size { length result.0.now + length result.1.now ≡ length source.now }
 {
     match from_utf8(source) {
         Ok(text) => (text, &[]),

@@ -15,12 +15,10 @@ use sy_base::Span;
 fn closes_comment(bytes: &[u8]) -> bool
     ensures { IsFalse result ↔ IsLongestRun goes_on_comment bytes.now [] }
 {
-    let mut rest = bytes;
-    while let [first, after @ ..] = rest {
-        if *first == b'*' && after.first() == Some(&b'/') {
+    for place in 1..bytes.len() {
+        if bytes[place - 1] == b'*' && bytes[place] == b'/' {
             return true;
         }
-        rest = after;
     }
     false
 }

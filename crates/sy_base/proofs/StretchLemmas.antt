@@ -55,7 +55,7 @@ Stretch-same spot end other ts us (first_token s e kind text taken rest tokens s
     ((λ i. token_at spot (kind_same i) (text_same i) (sym same.taken_same i) ∷ tails.0 i), tails.1)
 
 -- a piece takes something
-Stands-some : (piece : Piece) (taken rest : List ℕ) → Stands piece taken rest → taken ≡ [] → ⊥
+pub Stands-some : (piece : Piece) (taken rest : List ℕ) → Stands piece taken rest → taken ≡ [] → ⊥
 Stands-some piece taken last (blank c rest passes) none = cc
 Stands-some piece taken last (line_comment text rest longest) none = cc
 Stands-some piece taken last (block_comment text rest longest) none = cc

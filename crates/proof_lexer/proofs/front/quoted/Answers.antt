@@ -13,7 +13,8 @@ returns-then-is_empty c =
 pub returns-then-last-eq34 : goal.returns-then-last-eq34
 returns-then-last-eq34 c =
     let some = some_chars c.part_before-text.result.now c.part_before-text.utf8 (eqb-false _ 0 (sym c.is_empty.ensures ∙ c.if-is_empty.false)) in
-    quoted_front _ _ _ _ c.in-Some.last c.after_run-end.ensures c.part_before-text.ensures.part c.in-Some.ensures.0 c.if-last-eq34.true some
+    (c.part_before-text.utf8,
+     quoted_front _ _ _ _ c.in-Some.last c.after_run-end.ensures c.part_before-text.ensures.part c.in-Some.ensures.0 c.if-last-eq34.true some)
 
 pub returns-else-last-eq34 : goal.returns-else-last-eq34
 returns-else-last-eq34 c =

@@ -1,9 +1,5 @@
-use Rattle.std.proofs.Common.{◌↔◌, [], length}
-use Rattle.sy_base.specs.Tokens.{goes_on_comment, IsLongestRun}
+use Rattle.std.proofs.Common.{◌≡◌, ℕ, suc, ◌<◌, get_or}
 use Rattle.proof_lexer.proofs.lexer.closes_comment.Given as goal
 
-abbrev pub invariant-loop-rest : goal.invariant-loop-rest
-invariant-loop-rest l = IsLongestRun goes_on_comment l.rest [] ↔ IsLongestRun goes_on_comment l.bytes []
-
-abbrev pub decreases-loop-rest : goal.decreases-loop-rest
-decreases-loop-rest l = length l.rest
+abbrev pub invariant-loop-place : goal.invariant-loop-place
+invariant-loop-place l = (k : ℕ) → suc k < l.place → get_or l.bytes k 0 ≡ 42 → get_or l.bytes (suc k) 0 ≡ 47 → ⊥
