@@ -1,12 +1,12 @@
 -- What stands at the front of a text, from where the runs of it end.
-use Rattle.std.proofs.Common.{◌≡◌, ℕ, ◌+◌, ◌-◌, ◌<◌, ◌≤◌, ◌⊎◌, inl, inr, Bool, true, false, not, ◌&&◌, ◌||◌, ◌==◌, nat_le, List, [], ◌∷◌, ◌++◌, length, refl, sym, ap, ◌∙◌, subst, arith, append_assoc, append-nil, length-append}
+use Rattle.std.proofs.Common.{◌≡◌, ℕ, ◌<◌, ◌≤◌, ◌⊎◌, inl, inr, Bool, true, false, ◌&&◌, ◌||◌, ◌==◌, nat_le, List, [], ◌∷◌, ◌++◌, length, refl, sym, ap, ◌∙◌, subst, arith, append_assoc, length-append}
 use Rattle.std.specs.Str.{encode_utf8_all}
 use Rattle.std.specs.Char.{encode_utf8}
-use Rattle.std.proofs.lemmas.Bool.{both_ways, and_parts, and_cases, or_cases, or_from, and_from, not-true, not-false, not_from_false, eqb-true, le-leb, leb-true, lt-leb, cond-true, cond-false, and_left, and_right}
+use Rattle.std.proofs.lemmas.Bool.{both_ways, and_parts, or_cases, or_from, and_from, not-false, not_from_false, eqb-true, le-leb, lt-leb, cond-true, cond-false, and_left, and_right}
 use Rattle.std.proofs.lemmas.List.{append_cancel_right}
 use Rattle.std.proofs.lemmas.Str.{encode_ascii, length-le-encodes}
 use Rattle.unicode_ident.specs.Ident.{is_xid_continue}
-use Rattle.sy_base.specs.Tokens.{is_blank, is_single, is_other, begins, goes_on_line, goes_on_comment, goes_on_quoted, goes_on_word, goes_on_symbol, IsLongestRun, all_dashes, symbol_kind, IsOpenQuote, Piece, gap, token, Stands, blank, line_comment, block_comment, quoted, single, word, symbol}
+use Rattle.sy_base.specs.Tokens.{is_blank, is_single, is_other, begins, goes_on_line, goes_on_comment, goes_on_quoted, goes_on_word, goes_on_symbol, IsLongestRun, all_dashes, symbol_kind, gap, token, blank, line_comment, block_comment, quoted, single, word, symbol}
 use Rattle.sy_base.proofs.RunLemmas.{run_stops, run_same, run_whole}
 use Rattle.proof_lexer.specs.Front.{EndsWith, RunEnds, StandsBefore, OpensComment, OpensQuote}
 
@@ -167,8 +167,12 @@ dashes_size : (cs : List ℕ) → all_dashes cs ≡ true → length (encode_utf8
 dashes_size [] dashes = refl
 dashes_size (c ∷ cs) dashes =
     let parts = and_parts (c == 45) (all_dashes cs) dashes in
-    omega (arith, length-append (encode_utf8 c) (encode_utf8_all cs), dashes_size cs parts.1,
-      ap length (encode_ascii c (omega (arith, eqb-true c 45 parts.0))))
+    omega (
+      arith,
+      length-append (encode_utf8 c) (encode_utf8_all cs),
+      dashes_size cs parts.1,
+      ap length (encode_ascii c (omega (arith, eqb-true c 45 parts.0))),
+    )
 
 pub bar_kind : (cs : List ℕ) → all_dashes cs ≡ true → 3 ≤ length (encode_utf8_all cs) → symbol_kind cs ≡ 3
 unfolding symbol_kind

@@ -1,11 +1,11 @@
 -- What a scan of a source has shown, at each turn and at its end.
-use Rattle.std.proofs.Common.{◌≡◌, ℕ, zero, suc, ◌+◌, ◌<◌, ◌≤◌, Bool, true, false, not, ◌&&◌, List, [], ◌∷◌, ◌++◌, length, get_or, lit<, IsUtf8, refl, sym, ap, ◌∙◌, subst, arith, append-nil, length-append}
+use Rattle.std.proofs.Common.{◌≡◌, ℕ, zero, suc, ◌+◌, ◌<◌, ◌≤◌, false, List, [], ◌∷◌, ◌++◌, length, get_or, lit<, IsUtf8, refl, sym, ap, ◌∙◌, subst, arith, append-nil, length-append}
 use Rattle.std.specs.Prelude.{◌==◌}
 use Rattle.std.specs.Str.{chars, encode_utf8_all, StartsWithNoChar}
 use Rattle.std.specs.Char.{encode_utf8}
-use Rattle.std.proofs.lemmas.Str.{encode_ascii, length-encode, len_utf8_bounds, encodes-append}
+use Rattle.std.proofs.lemmas.Str.{encode_ascii, length-encode, len_utf8_bounds}
 use Rattle.std.proofs.lemmas.Bool.{both_ways, not-true, not_from_false, and_parts, and_from, and_right, false_from_ne_true, eqb-true, eq-eqb}
-use Rattle.sy_base.specs.Tokens.{PlainToken, Piece, gap, token, Stands, begins, goes_on_comment, IsLongestRun, Spot, start, past, token_at, size, Stretch, nothing, first_gap, first_token, IsDecoded, AreTokens, HasOpenComment, HasOpenQuote, HasStrayByte}
+use Rattle.sy_base.specs.Tokens.{PlainToken, Piece, gap, token, begins, goes_on_comment, IsLongestRun, Spot, start, token_at, size, Stretch, nothing, first_gap, first_token, IsDecoded, AreTokens, HasOpenComment, HasOpenQuote, HasStrayByte}
 use Rattle.sy_base.proofs.StretchLemmas.{Stretch-append, Stretch-same, IsFinal, IsFinal-end, IsFinal-comment, IsFinal-quote, IsDecoded-same, Stands-some}
 use Rattle.proof_lexer.specs.Front.{StandsBefore, OpensComment, OpensQuote, GoesPast}
 use Rattle.proof_lexer.proofs.TextLemmas.{chars-spell}
@@ -34,7 +34,7 @@ pub Scanned-gap : (text : List ℕ) (tokens : List PlainToken) (at next : Spot) 
 Scanned-gap text tokens at next left next_left scanned stands goes =
     let behind = goes.spot stands.taken stands.parts in
     let one : Stretch at [] next = first_gap at next stands.taken next.rest [] stands.parts stands.stands
-          (subst (λ (s : Spot). Stretch s [] next) behind (nothing next)) in
+    (subst (λ (s : Spot). Stretch s [] next) behind (nothing next)) in
     record {
       stretch = subst (λ (ts : List PlainToken). Stretch (start (chars text)) ts next) (append-nil tokens)
           (Stretch-append (start (chars text)) at next tokens [] scanned.stretch one);
@@ -50,10 +50,10 @@ Scanned-token text tokens at next left next_left kind word scanned utf8 stands g
     let behind = goes.spot stands.taken stands.parts in
     let place : next.place ≡ at.place + size stands.taken = ap (λ s. s.place) behind in
     let one : Stretch at (token_at at kind (chars word) stands.taken ∷ []) next =
-          first_token at next kind (chars word) stands.taken next.rest [] stands.parts stands.stands
-          (subst (λ (s : Spot). Stretch s [] next) behind (nothing next)) in
+    first_token at next kind (chars word) stands.taken next.rest [] stands.parts stands.stands
+    (subst (λ (s : Spot). Stretch s [] next) behind (nothing next)) in
     let same : token_at at kind (chars word) stands.taken ≡ record { kind = kind; text = word; from = at.place; to = next.place; line = at.line } =
-          λ i. record { kind = kind; text = chars-spell word utf8 i; from = at.place; to = sym place i; line = at.line } in
+    λ i. record { kind = kind; text = chars-spell word utf8 i; from = at.place; to = sym place i; line = at.line } in
     record {
       stretch = Stretch-append (start (chars text)) at next tokens _ scanned.stretch
           (subst (λ (t : PlainToken). Stretch at (t ∷ []) next) same one);
@@ -79,10 +79,11 @@ pub run_of_none : (bytes : List ℕ) → ((k : ℕ) → suc k < length bytes →
 unfolding goes_on_comment
 run_of_none [] none = tt
 run_of_none (c ∷ []) none = (not_from_false _ (and_right (c == 42) false refl), tt)
-run_of_none (c ∷ d ∷ bytes) none =
-    (not_from_false _ (false_from_ne_true _ (λ both.
-       let parts = and_parts (c == 42) (d == 47) both in none 0 (omega arith) (eqb-true c 42 parts.0) (eqb-true d 47 parts.1))),
-     run_of_none (d ∷ bytes) (λ k within. none (suc k) (omega arith)))
+run_of_none (c ∷ d ∷ bytes) none = (
+  not_from_false _ (false_from_ne_true _ (λ both.
+      let parts = and_parts (c == 42) (d == 47) both in none 0 (omega arith) (eqb-true c 42 parts.0) (eqb-true d 47 parts.1))),
+  run_of_none (d ∷ bytes) (λ k within. none (suc k) (omega arith)),
+)
 
 module _ (source text stray : List ℕ) (decoded : IsDecoded source (chars text) stray) (utf8 : IsUtf8 text)
     (tokens : List PlainToken) (at : Spot) (stretch : Stretch (start (chars text)) tokens at) where
@@ -93,7 +94,7 @@ module _ (source text stray : List ℕ) (decoded : IsDecoded source (chars text)
       let same = IsDecoded-same source other.characters (chars text) other.stray stray other.decoded decoded in
       let again = subst (λ (cs : List ℕ). Stretch (start cs) other.before other.spot) same.0 other.stretch in
       let ends = Stretch-same _ at other.spot tokens other.before stretch again final
-            (IsFinal-comment other.spot.rest other.after other.stray other.opens other.no_end) in
+      (IsFinal-comment other.spot.rest other.after other.stray other.opens other.no_end) in
       (other.after, ap (λ s. s.rest) ends.1 ∙ other.opens, subst (λ (l : List ℕ). IsLongestRun goes_on_comment (other.after ++ l) []) same.1 other.no_end)
 
   quote_at : (place : ℕ) → IsFinal at.rest → HasOpenQuote source place → (after : List ℕ) × (at.rest ≡ 34 ∷ after)
@@ -101,7 +102,7 @@ module _ (source text stray : List ℕ) (decoded : IsDecoded source (chars text)
       let same = IsDecoded-same source other.characters (chars text) other.stray stray other.decoded decoded in
       let again = subst (λ (cs : List ℕ). Stretch (start cs) other.before other.spot) same.0 other.stretch in
       let ends = Stretch-same _ at other.spot tokens other.before stretch again final
-            (IsFinal-quote other.spot.rest other.after other.opens other.no_text) in
+      (IsFinal-quote other.spot.rest other.after other.opens other.no_text) in
       (other.after, ap (λ s. s.rest) ends.1 ∙ other.opens)
 
   pub tokens_at_end : at.rest ≡ [] → stray ≡ [] → AreTokens source tokens

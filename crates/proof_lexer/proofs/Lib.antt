@@ -2,3 +2,4 @@ pub mod FrontLemmas
 pub mod TextLemmas
 pub mod CursorLemmas
 pub mod LexLemmas
+pub mod LineLemmas

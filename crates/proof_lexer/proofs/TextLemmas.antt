@@ -1,7 +1,7 @@
 -- A text and its characters: where one character or a part comes off its front.
-use Rattle.std.proofs.Common.{◌≡◌, ℕ, ◌+◌, ◌-◌, ◌<◌, ◌≤◌, true, ◌&&◌, List, [], ◌∷◌, ◌++◌, length, get_or, take, drop, IsUtf8, refl, sym, ap, ◌∙◌, subst, arith, length-append, append-nil, take-add, take-append-drop}
+use Rattle.std.proofs.Common.{◌≡◌, ℕ, ◌+◌, ◌-◌, ◌<◌, ◌≤◌, true, List, [], ◌∷◌, ◌++◌, length, get_or, take, drop, IsUtf8, refl, sym, ap, ◌∙◌, subst, arith, length-append, append-nil, take-add, take-append-drop}
 use Rattle.std.specs.Str.{chars, all_scalars, encode_utf8_all, IsCharBoundary, StartsWithNoChar, IsValidUpTo}
-use Rattle.std.specs.Char.{encode_utf8, IsScalar}
+use Rattle.std.specs.Char.{encode_utf8}
 use Rattle.std.proofs.lemmas.Str.{chars-encodes, chars-nil, encode_same, encodes-append, length-encode, len_utf8_bounds, IsCharBoundary-start, IsUtf8-append, IsUtf8-encode}
 use Rattle.std.proofs.lemmas.Bool.{and_parts, and_from}
 use Rattle.std.proofs.lemmas.List.{get_or-append-add}
@@ -65,10 +65,11 @@ front-chars bs end front text parts =
 pub boundary-before : (front end : List ℕ) → IsUtf8 end → IsCharBoundary (front ++ end) (length front)
 boundary-before front end text =
     let first : get_or (front ++ end) (length front) 0 ≡ get_or end 0 0 =
-          ap (λ n. get_or (front ++ end) n 0) (let same : length front ≡ length front + 0 = omega arith in same)
-          ∙ get_or-append-add front end 0 0 in
-    (omega (arith, length-append front end),
-     λ within high. omega (arith, first, (IsCharBoundary-start end text).1 (omega (arith, length-append front end, within)) (omega (arith, first, high))))
+    ap (λ n. get_or (front ++ end) n 0) (let same : length front ≡ length front + 0 = omega arith in same)
+    ∙ get_or-append-add front end 0 0 in (
+      omega (arith, length-append front end),
+      λ within high. omega (arith, first, (IsCharBoundary-start end text).1 (omega (arith, length-append front end, within)) (omega (arith, first, high))),
+    )
 
 -- How a text is cut before the text with which it ends.
 pub record IsCut (bs end : List ℕ) : Type 0 where
@@ -95,7 +96,7 @@ no_character bs n valid c rest scalar same =
     let width = length (encode_utf8 c) in
     let text : IsUtf8 (take n bs ++ encode_utf8 c) = IsUtf8-append (take n bs) (encode_utf8 c) valid.front (IsUtf8-encode c scalar) in
     let taken : take (n + width) bs ≡ take n bs ++ encode_utf8 c =
-          take-add n width bs ∙ ap (λ l. take n bs ++ l) (ap (take width) same ∙ take-append_seam (encode_utf8 c) rest) in
+    take-add n width bs ∙ ap (λ l. take n bs ++ l) (ap (take width) same ∙ take-append_seam (encode_utf8 c) rest) in
     valid.longest (n + width) (omega (arith, encode-some c)) (subst IsUtf8 (sym taken) text)
 
 -- a source that is text, and one that is text up to a place

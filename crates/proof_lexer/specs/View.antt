@@ -1,5 +1,5 @@
 -- What a contract sees of the tokens.
-use Rattle.std.specs.Prelude.{ℕ, List, map}
+use Rattle.std.specs.Prelude.{ℕ, List}
 use Rattle.sy_base.specs.Tokens.{PlainToken, HasFault, not_utf8, open_comment, open_quote}
 use Rattle.proof_lexer.specs.declared.token.Kind.{Kind}
 use Rattle.proof_lexer.specs.declared.token.Kind.TheVariants.{Word, Symbol, Punct, Bar, Quoted}

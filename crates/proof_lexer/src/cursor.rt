@@ -2,7 +2,7 @@
 ghost use Rattle.std.specs.Prelude.{◌≡◌, ◌+◌, ◌-◌, ◌^◌, ◌<◌, ◌≤◌, length, chars};
 ghost use Rattle.proof_lexer.specs.Front.{EndsWith, GoesPast, spot_of};
 
-use crate::characters::{part_before, line_feeds};
+use crate::characters::{line_feeds, part_before};
 
 // A place in a source, its line, and the text from there on.
 #[derive(Clone, Copy)]

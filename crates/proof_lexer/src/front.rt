@@ -5,7 +5,7 @@ ghost use Rattle.unicode_ident.specs.Ident.{is_xid_continue};
 ghost use Rattle.proof_lexer.specs.View.{kind_number};
 ghost use Rattle.proof_lexer.specs.Front.{IsFront};
 
-use crate::characters::{part_before, first_of};
+use crate::characters::{first_of, part_before};
 use crate::run::{Run, after_run, is_blank, is_single, opens_comment};
 use crate::token::Kind;
 use unicode_ident::is_xid_continue;
@@ -14,8 +14,14 @@ use unicode_ident::is_xid_continue;
 #[derive(Clone, Copy)]
 pub(crate) enum Front<'a> {
     // A blank or a comment.
-    Gap { rest: &'a str },
-    Token { kind: Kind, text: &'a str, rest: &'a str },
+    Gap {
+        rest: &'a str,
+    },
+    Token {
+        kind: Kind,
+        text: &'a str,
+        rest: &'a str,
+    },
     OpenComment,
     OpenQuote,
 }

@@ -6,9 +6,11 @@ mod cursor;
 mod fault;
 mod front;
 mod lexer;
+mod line;
 mod run;
 mod token;
 
 pub use fault::LexFault;
 pub use lexer::lex;
+pub use line::source_line;
 pub use token::{Kind, Token};

@@ -79,16 +79,7 @@ pub(crate) fn opens_comment(text: &str) -> bool
 }
 
 // Whether a run goes on with a character, by the text after it.
-#[tactic(
-    auto,
-    unfolding(
-        sy_base::specs::Tokens::goes_on_line,
-        sy_base::specs::Tokens::goes_on_comment,
-        sy_base::specs::Tokens::goes_on_quoted,
-        sy_base::specs::Tokens::goes_on_word,
-        sy_base::specs::Tokens::goes_on_symbol
-    )
-)]
+#[tactic(auto, unfolding(sy_base::specs::Tokens::goes_on_line, sy_base::specs::Tokens::goes_on_comment, sy_base::specs::Tokens::goes_on_quoted, sy_base::specs::Tokens::goes_on_word, sy_base::specs::Tokens::goes_on_symbol))]
 fn goes_on(run: Run, c: char, after: &str) -> bool
     ensures { result ≡ goes_on run c (chars after.now) }
 {

@@ -1,7 +1,7 @@
 -- At one place of a text at most one piece stands: it is what a look at the first characters finds.
-use Rattle.std.proofs.Common.{◌≡◌, ℕ, ◌<◌, ◌⊎◌, inl, inr, ⊎_elim, Bool, true, false, not, cond, ◌&&◌, ◌||◌, List, [], ◌∷◌, ◌++◌, length, drop, refl, sym, ap, ◌∙◌, subst, arith, lit<, append_assoc}
+use Rattle.std.proofs.Common.{◌≡◌, ℕ, ⊎_elim, Bool, true, false, cond, ◌&&◌, ◌||◌, List, [], ◌∷◌, ◌++◌, drop, refl, sym, ap, ◌∙◌, subst, lit<, append_assoc}
 use Rattle.std.specs.Prelude.{◌==◌}
-use Rattle.std.proofs.lemmas.Bool.{true≢false, both_ways, and_parts, or_cases, or_parts, eqb-true, eq-eqb, cond-true, cond-false, not-true, and_right, false_from_ne_true}
+use Rattle.std.proofs.lemmas.Bool.{both_ways, and_parts, or_cases, or_parts, eqb-true, cond-true, cond-false, not-true, false_from_ne_true}
 use Rattle.unicode_ident.specs.Ident.{is_xid_continue}
 use Rattle.unicode_ident.proofs.IdentLemmas.{is_xid_continue-ascii}
 use Rattle.sy_base.specs.Tokens.{is_blank, is_single, is_other, begins, goes_on_line, goes_on_comment, goes_on_quoted, goes_on_word, goes_on_symbol, IsLongestRun, symbol_kind, Piece, gap, token, Stands, blank, line_comment, block_comment, quoted, single, word, symbol}
@@ -240,5 +240,5 @@ pub Stands-same : (piece other : Piece) (taken other_taken rest other_rest : Lis
     → IsSamePiece piece other taken other_taken rest other_rest
 Stands-same piece other taken other_taken rest other_rest stands other_stands same =
     let all : of piece taken rest ≡ of other other_taken other_rest =
-          sym (stands_found piece taken rest stands) ∙ ap found same ∙ stands_found other other_taken other_rest other_stands in
+    sym (stands_found piece taken rest stands) ∙ ap found same ∙ stands_found other other_taken other_rest other_stands in
     record { piece_same = ap (λ f. f.piece) all; taken_same = ap (λ f. f.taken) all; rest_same = ap (λ f. f.rest) all }

@@ -1,14 +1,13 @@
 -- From one spot the pieces of a text lead to one end, so a source has one list of tokens or one fault.
-use Rattle.std.proofs.Common.{◌≡◌, ℕ, ◌+◌, ◌<◌, Bool, true, false, not, ◌&&◌, ◌||◌, List, [], ◌∷◌, ◌++◌, length, get_or, drop, refl, sym, ap, ◌∙◌, subst, arith, append_assoc, append-nil, length-append}
+use Rattle.std.proofs.Common.{◌≡◌, ℕ, Bool, true, ◌&&◌, ◌||◌, List, [], ◌∷◌, ◌++◌, get_or, drop, refl, sym, ap, ◌∙◌, subst, arith, append_assoc}
 use Rattle.std.specs.Prelude.{◌==◌}
 use Rattle.std.specs.Str.{all_scalars, encode_utf8_all, StartsWithNoChar}
-use Rattle.std.specs.Char.{encode_utf8, IsScalar}
-use Rattle.std.proofs.lemmas.Str.{encode_same, encode_ascii, length-encode, len_utf8_bounds}
-use Rattle.std.proofs.lemmas.Bool.{both_ways, and_parts, true≢false, false≢true, not_from_false, and_right, and_left, false_from_ne_true, eqb-true, eq-eqb}
+use Rattle.std.specs.Char.{encode_utf8}
+use Rattle.std.proofs.lemmas.Str.{encode_same}
+use Rattle.std.proofs.lemmas.Bool.{and_parts, true≢false, false≢true}
 use Rattle.unicode_ident.specs.Ident.{is_xid_continue}
-use Rattle.sy_base.specs.Tokens.{PlainToken, is_blank, is_single, begins, goes_on_comment, goes_on_quoted, goes_on_symbol, IsLongestRun, Piece, gap, token, Stands, blank, line_comment, block_comment, quoted, single, word, symbol, Spot, past, token_at, size, Stretch, nothing, first_gap, first_token, start, IsDecoded, AreTokens, HasOpenComment, HasOpenQuote, HasStrayByte, IsOpenQuote}
-use Rattle.sy_base.proofs.RunLemmas.{run_same}
-use Rattle.sy_base.proofs.StandsLemmas.{Stands-same, IsSamePiece, quote_no_word, slash_no_word, symbol_only}
+use Rattle.sy_base.specs.Tokens.{PlainToken, is_blank, is_single, begins, goes_on_comment, IsLongestRun, Piece, gap, token, Stands, blank, line_comment, block_comment, quoted, single, word, symbol, Spot, past, token_at, Stretch, nothing, first_gap, first_token, IsDecoded, IsOpenQuote}
+use Rattle.sy_base.proofs.StandsLemmas.{Stands-same, quote_no_word, slash_no_word, symbol_only}
 
 -- two stretches, one after the other
 pub Stretch-append : (a b c : Spot) (ts us : List PlainToken) → Stretch a ts b → Stretch b us c → Stretch a (ts ++ us) c
@@ -154,7 +153,7 @@ decoded_parts (c ∷ cs) [] stray other scalars other_scalars none other_none sa
     absurd (other_none c (encode_utf8_all cs ++ stray) (and_parts _ _ scalars).0 (sym same ∙ append_assoc (encode_utf8 c) (encode_utf8_all cs) stray))
 decoded_parts (c ∷ cs) (d ∷ ds) stray other scalars other_scalars none other_none same =
     let firsts = encode_same c d (encode_utf8_all cs ++ stray) (encode_utf8_all ds ++ other)
-          (sym (append_assoc (encode_utf8 c) (encode_utf8_all cs) stray) ∙ same ∙ append_assoc (encode_utf8 d) (encode_utf8_all ds) other) in
+    (sym (append_assoc (encode_utf8 c) (encode_utf8_all cs) stray) ∙ same ∙ append_assoc (encode_utf8 d) (encode_utf8_all ds) other) in
     let rests = decoded_parts cs ds stray other (and_parts _ _ scalars).1 (and_parts _ _ other_scalars).1 none other_none firsts.1 in
     ((λ i. firsts.0 i ∷ rests.0 i), rests.1)
 

@@ -75,14 +75,14 @@ pub data Stands : Piece → (taken rest : List ℕ) → Type 0 where
   blank : (c : ℕ) (rest : List ℕ) → IsTrue (is_blank c) → Stands gap (c ∷ []) rest
   line_comment : (text rest : List ℕ) → IsLongestRun goes_on_line text rest → Stands gap (47 ∷ 47 ∷ text) rest
   block_comment : (text rest : List ℕ) → IsLongestRun goes_on_comment text (42 ∷ 47 ∷ rest)
-    → Stands gap (47 ∷ 42 ∷ (text ++ (42 ∷ 47 ∷ []))) rest
+      → Stands gap (47 ∷ 42 ∷ (text ++ (42 ∷ 47 ∷ []))) rest
   quoted : (c : ℕ) (text rest : List ℕ) → IsLongestRun goes_on_quoted (c ∷ text) (34 ∷ rest)
-    → Stands (token 4 (c ∷ text)) (34 ∷ ((c ∷ text) ++ (34 ∷ []))) rest
+      → Stands (token 4 (c ∷ text)) (34 ∷ ((c ∷ text) ++ (34 ∷ []))) rest
   single : (c : ℕ) (rest : List ℕ) → IsTrue (is_single c) → Stands (token 2 (c ∷ [])) (c ∷ []) rest
   word : (c : ℕ) (text rest : List ℕ) → IsTrue (is_xid_continue c) → IsLongestRun goes_on_word text rest
-    → Stands (token 0 (c ∷ text)) (c ∷ text) rest
+      → Stands (token 0 (c ∷ text)) (c ∷ text) rest
   symbol : (c : ℕ) (text rest : List ℕ) → IsLongestRun goes_on_symbol (c ∷ text) rest
-    → Stands (token (symbol_kind (c ∷ text)) (c ∷ text)) (c ∷ text) rest
+      → Stands (token (symbol_kind (c ∷ text)) (c ∷ text)) (c ∷ text) rest
 
 -- A place in a source, in bytes, its line, counted from 1, and the characters from there on.
 pub record Spot : Type 0 where
@@ -110,10 +110,10 @@ token_at spot kind text taken =
 pub data Stretch : Spot → List PlainToken → Spot → Type 0 where
   nothing : (spot : Spot) → Stretch spot [] spot
   first_gap : (spot end : Spot) (taken rest : List ℕ) (tokens : List PlainToken) → spot.rest ≡ taken ++ rest
-    → Stands gap taken rest → Stretch (past spot taken rest) tokens end → Stretch spot tokens end
+      → Stands gap taken rest → Stretch (past spot taken rest) tokens end → Stretch spot tokens end
   first_token : (spot end : Spot) (kind : ℕ) (text taken rest : List ℕ) (tokens : List PlainToken)
-    → spot.rest ≡ taken ++ rest → Stands (token kind text) taken rest → Stretch (past spot taken rest) tokens end
-    → Stretch spot (token_at spot kind text taken ∷ tokens) end
+      → spot.rest ≡ taken ++ rest → Stands (token kind text) taken rest → Stretch (past spot taken rest) tokens end
+      → Stretch spot (token_at spot kind text taken ∷ tokens) end
 
 -- where the first of these characters stands
 abbrev pub start : List ℕ → Spot

@@ -1,4 +1,4 @@
-use Rattle.std.proofs.Common.{◌≡◌, ℕ, List, take, drop, length, IsUtf8, ◌∙◌, sym, ap, subst, arith}
+use Rattle.std.proofs.Common.{◌∙◌}
 use Rattle.std.specs.Str.{IsValidUpTo}
 use Rattle.proof_lexer.proofs.TextLemmas.{decoded_whole, decoded_front}
 use Rattle.proof_lexer.proofs.characters.decoded.Goals as goal

@@ -1,4 +1,4 @@
-use Rattle.std.proofs.Common.{◌≡◌, ◌∷◌, ◌∙◌, sym, ap, subst, ℕ, List}
+use Rattle.std.proofs.Common.{◌∷◌, ◌∙◌, sym, ap, subst, ℕ, List}
 use Rattle.std.specs.Str.{chars}
 use Rattle.proof_lexer.specs.Front.{IsFront}
 use Rattle.proof_lexer.proofs.FrontLemmas.{line_front, star_second}

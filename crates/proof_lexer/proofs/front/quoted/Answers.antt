@@ -1,7 +1,6 @@
-use Rattle.std.proofs.Common.{◌≡◌, ◌<◌, ◌∙◌, sym, ap, [], length, arith}
-use Rattle.std.specs.Str.{chars}
+use Rattle.std.proofs.Common.{◌∙◌, sym}
 use Rattle.std.proofs.lemmas.Bool.{eqb-true, eqb-false}
-use Rattle.proof_lexer.proofs.TextLemmas.{chars-empty, length-no_chars, some_chars}
+use Rattle.proof_lexer.proofs.TextLemmas.{chars-empty, some_chars}
 use Rattle.proof_lexer.proofs.FrontLemmas.{open_quote, quoted_front}
 use Rattle.proof_lexer.proofs.front.quoted.Goals as goal
 
@@ -12,9 +11,10 @@ returns-then-is_empty c =
 
 pub returns-then-last-eq34 : goal.returns-then-last-eq34
 returns-then-last-eq34 c =
-    let some = some_chars c.part_before-text.result.now c.part_before-text.utf8 (eqb-false _ 0 (sym c.is_empty.ensures ∙ c.if-is_empty.false)) in
-    (c.part_before-text.utf8,
-     quoted_front _ _ _ _ c.in-Some.last c.after_run-end.ensures c.part_before-text.ensures.part c.in-Some.ensures.0 c.if-last-eq34.true some)
+    let some = some_chars c.part_before-text.result.now c.part_before-text.utf8 (eqb-false _ 0 (sym c.is_empty.ensures ∙ c.if-is_empty.false)) in (
+      c.part_before-text.utf8,
+      quoted_front _ _ _ _ c.in-Some.last c.after_run-end.ensures c.part_before-text.ensures.part c.in-Some.ensures.0 c.if-last-eq34.true some,
+    )
 
 pub returns-else-last-eq34 : goal.returns-else-last-eq34
 returns-else-last-eq34 c =

@@ -1,4 +1,4 @@
-use Rattle.std.proofs.Common.{◌≡◌, ℕ, suc, ◌-◌, ◌<◌, get_or, subst, refl, arith}
+use Rattle.std.proofs.Common.{◌≡◌, ℕ, suc, ◌-◌, get_or, subst, refl, arith}
 use Rattle.proof_lexer.proofs.LexLemmas.{run_over, run_of_none}
 use Rattle.proof_lexer.proofs.lexer.closes_comment.Goals as goal
 

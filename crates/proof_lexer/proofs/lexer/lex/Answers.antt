@@ -1,4 +1,4 @@
-use Rattle.std.proofs.Common.{◌≡◌, ℕ, ◌+◌, ◌<◌, ◌≤◌, List, [], ◌∷◌, ◌++◌, map, length, refl, sym, ap, ◌∙◌, subst, arith}
+use Rattle.std.proofs.Common.{◌≡◌, List, [], map, length, sym, ap, ◌∙◌, subst, arith}
 use Rattle.std.specs.Str.{chars}
 use Rattle.sy_base.specs.Tokens.{PlainToken, start}
 use Rattle.std.proofs.ResultArms.{chosen}
@@ -6,7 +6,6 @@ use Rattle.std.proofs.lemmas.List.{map_push, nil_from_length}
 use Rattle.std.proofs.lemmas.Bool.{true≢false, eqb-true, eqb-false}
 use Rattle.proof_lexer.specs.View.{token_view, kind_number}
 use Rattle.proof_lexer.specs.Front.{spot_of}
-use Rattle.proof_lexer.proofs.TextLemmas.{chars-empty, length-no_chars}
 use Rattle.proof_lexer.proofs.LexLemmas.{Scanned, Scanned-start, Scanned-gap, Scanned-token, step_smaller, stands_at, tokens_at_end, stray_at_end, stray_in_comment, comment_without_end, quote_without_text}
 use Rattle.proof_lexer.proofs.lexer.lex.Goals as goal
 
@@ -47,7 +46,7 @@ loop-first-preserved c =
     let more = ap (map token_view) pushed ∙ map_push token_view c.loop-first.tokens.items _ in
     subst (λ (ts : List PlainToken). Scanned c.decoded.result.0.now ts (spot_of next) (length next.rest.now)) (sym more)
     (Scanned-token _ _ _ _ _ _ (kind_number c.in-Token.kind) c.in-Token.text.now c.loop-first.invariant c.in-Token.ensures.0
-      (stands_at _ _ _ _ (ap chars c.past-next.ensures.rest) c.in-Token.ensures.1) c.past-next.ensures.goes)
+    (stands_at _ _ _ _ (ap chars c.past-next.ensures.rest) c.in-Token.ensures.1) c.past-next.ensures.goes)
 
 pub returns-then-closes_comment-clause-refused : goal.returns-then-closes_comment-clause-refused
 returns-then-closes_comment-clause-refused c =

@@ -1,6 +1,4 @@
-use Rattle.std.proofs.Common.{◌≡◌, ◌+◌, ◌≤◌, length, map}
-use Rattle.std.specs.Str.{chars}
-use Rattle.sy_base.specs.Tokens.{Stretch, start}
+use Rattle.std.proofs.Common.{length, map}
 use Rattle.proof_lexer.specs.View.{token_view}
 use Rattle.proof_lexer.specs.Front.{spot_of}
 use Rattle.proof_lexer.proofs.LexLemmas.{Scanned}

@@ -1,4 +1,4 @@
-use Rattle.std.proofs.Common.{◌≡◌, List, ℕ, length, chars}
+use Rattle.std.proofs.Common.{List, ℕ, length, chars}
 use denote.Text.{Utf8}
 use denote.Shadow.{shadow}
 use Rattle.proof_lexer.specs.Front.{goes_on, RunEnds}

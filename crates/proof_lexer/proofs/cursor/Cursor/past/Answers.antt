@@ -5,8 +5,14 @@ use Rattle.proof_lexer.proofs.cursor.Cursor.past.Goals as goal
 
 pub overflow_add-result-2 : goal.overflow_add-result-2
 overflow_add-result-2 c =
-    omega (arith, c.part_before-taken.ensures.size, c.requires.room, c.requires.line, c.line_feeds.ensures,
-      few_line_feeds c.part_before-taken.result.now c.part_before-taken.utf8)
+    omega (
+      arith,
+      c.part_before-taken.ensures.size,
+      c.requires.room,
+      c.requires.line,
+      c.line_feeds.ensures,
+      few_line_feeds c.part_before-taken.result.now c.part_before-taken.utf8,
+    )
 
 pub returns-clause-goes : goal.returns-clause-goes
 returns-clause-goes c = record {
