@@ -1,6 +1,16 @@
 //! The tokens of a text, lent from it.
 #![tactic(auto)]
 
+mod characters;
+mod cursor;
+mod fault;
+mod front;
+mod lexer;
+mod line;
+mod run;
 mod token;
 
+pub use fault::LexFault;
+pub use lexer::lex;
+pub use line::source_line;
 pub use token::{Kind, Token};

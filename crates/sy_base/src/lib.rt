@@ -7,9 +7,9 @@ mod memory;
 mod outside;
 mod steady;
 
+pub use binding_terms::{NoMemory, Text};
 pub use fault::Span;
 pub use host::{HostFiles, StdSink};
 pub use memory::{CutPut, MemFile, MemFiles, MemSink};
 pub use outside::{Files, ReadAnswer, Sink, SinkAnswer};
 pub use steady::{SteadyFiles, SteadySink};
-pub use binding_terms::{NoMemory, Text};

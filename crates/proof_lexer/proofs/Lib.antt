@@ -1,0 +1,5 @@
+pub mod FrontLemmas
+pub mod TextLemmas
+pub mod CursorLemmas
+pub mod LexLemmas
+pub mod LineLemmas
