@@ -1,13 +1,8 @@
-// A library with one function.
+//! Patterns against ground terms.
 #![tactic(auto)]
 
-ghost use Rattle.std.specs.Prelude.{◌≡◌};
-ghost use Rattle.scheme_match.specs.Echo.{echo_of};
+mod demand;
+mod matcher;
+mod pair;
 
-// The `ensures` clause is the contract: what `echo` returns is `echo_of` of its argument, a definition
-// in `specs/Echo.antt`, which a caller's clause can cite too.
-pub fn echo(x: usize) -> usize
-    ensures { result ≡ echo_of x }
-{
-    x
-}
+pub use matcher::Matcher;
