@@ -1,3 +1,6 @@
+pub mod Categories
+pub mod Firsts
 pub mod Joining
 pub mod PlainPatterns
+pub mod Scopes
 pub mod Solving
