@@ -1,0 +1,9 @@
+pub mod Categories
+pub mod Firsts
+pub mod Joining
+pub mod OnlyMatch
+pub mod PairLemmas
+pub mod Places
+pub mod PlainPatterns
+pub mod Scopes
+pub mod Solving
