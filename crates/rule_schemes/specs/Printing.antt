@@ -1,6 +1,6 @@
 -- The printed form of schemes, terms, contexts and judgments: a list of tokens, and its text. To be held against docs/notation.md,
 -- 'Printing'. A term is printed as the scheme without names that it is. What is out of range or out of scope is not printed.
-use Rattle.std.specs.Prelude.{ℕ, ◌+◌, ◌-◌, max, nat_lt, Bool, true, false, ◌==◌, ◌||◌, ◌&&◌, if◌then◌else◌, List, [], ◌∷◌, ◌++◌, length, map, reverse, drop, Option, None, Some, option_map, unwrap_or, slice_get, slice_index_or, codes, decimal}
+use Rattle.std.specs.Prelude.{ℕ, ◌+◌, ◌-◌, max, nat_lt, Bool, true, false, ◌==◌, ◌||◌, ◌&&◌, if◌then◌else◌, List, [], ◌∷◌, ◌++◌, length, map, reverse, drop, Option, None, Some, option_map, unwrap_or, slice_get, codes, decimal}
 use Rattle.std.specs.List.{list_any}
 use Rattle.binding_terms.specs.Tree as terms
 use Rattle.binding_terms.specs.Tree.{Tree, Args}
@@ -53,16 +53,23 @@ abbrev pub greatest : (cat : ℕ) → (scope : List Variable) → ℕ
 greatest c [] = 0
 greatest c (v ∷ vs) = if v.cat == c then max v.number (greatest c vs) else greatest c vs
 
+-- a further variable of the category, numbered one more than the greatest in scope
+abbrev pub next_variable : (cat : ℕ) → (scope : List Variable) → Variable
+next_variable c vs = record { cat = c; number = greatest c vs + 1 }
+
 -- The binders of a production or an entry as variables: those of one category are numbered in the order of their items, from one
 -- more than the greatest number in scope. A scope has the innermost variable first.
 abbrev pub numbered : (scope : List Variable) → (binders : List ℕ) → List Variable
 numbered vs [] = []
-numbered vs (c ∷ cs) =
-    let v : Variable = record { cat = c; number = greatest c vs + 1 } in v ∷ numbered (v ∷ vs) cs
+numbered vs (c ∷ cs) = next_variable c vs ∷ numbered (next_variable c vs ∷ vs) cs
+
+-- the binder of that number
+abbrev pub binder_at : List Variable → ℕ → Variable
+binder_at bs n = unwrap_or (slice_get bs n) (record { cat = 0; number = 0 })
 
 -- the variables that a slot is under, the last that it lists innermost
 abbrev pub bound_variables : List Variable → (binds : List ℕ) → List Variable
-bound_variables bs binds = map (λ n. slice_index_or bs n (record { cat = 0; number = 0 })) (reverse binds)
+bound_variables bs binds = map (binder_at bs) (reverse binds)
 
 -- a terminal as its production writes it
 abbrev pub terminal : (text : List ℕ) (quoted : Bool) → List ℕ

@@ -1,0 +1,23 @@
+-- Tokens written one after another.
+use Rattle.std.proofs.Common.{◌≡◌, ℕ, Bool, List, [], ◌∷◌, ◌++◌, if◌then◌else◌, refl, ap, sym, ◌∙◌, append_assoc}
+use Rattle.std.proofs.lemmas.List.{append-nil}
+use Rattle.rule_schemes.specs.Printing.{spaced, is_opening, is_closing}
+use Rattle.derivation_text.specs.Page.{joined_after, written}
+use Rattle.derivation_text.specs.declared.page.Page.{Page}
+
+pub spaced_append : (j : Bool) (xs ys : List (List ℕ)) → spaced j (xs ++ ys) ≡ spaced j xs ++ spaced (joined_after j xs) ys
+spaced_append j [] ys = refl
+spaced_append j (x ∷ xs) ys = rw (spaced_append (is_opening x) xs ys) (simp append_assoc)
+
+pub joined_append : (j : Bool) (xs ys : List (List ℕ)) → joined_after j (xs ++ ys) ≡ joined_after (joined_after j xs) ys
+joined_append j [] ys = refl
+joined_append j (x ∷ xs) ys = joined_append (is_opening x) xs ys
+
+-- two pieces one after another are one piece
+pub written_twice : (p : Page) (xs ys : List (List ℕ)) → written (written p xs) ys ≡ written p (xs ++ ys)
+unfolding written
+written_twice p xs ys = simp (spaced_append, joined_append, append_assoc)
+
+pub written_nothing : (p : Page) → written p [] ≡ p
+unfolding written
+written_nothing p = simp append-nil

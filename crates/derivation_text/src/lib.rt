@@ -1,0 +1,9 @@
+//! Judgments and derivations as text.
+#![tactic(auto)]
+
+mod page;
+mod term;
+mod words;
+
+pub use page::Page;
+pub use words::Variable;
