@@ -21,3 +21,11 @@ written_twice p xs ys = simp (spaced_append, joined_append, append_assoc)
 pub written_nothing : (p : Page) → written p [] ≡ p
 unfolding written
 written_nothing p = simp append-nil
+
+-- a piece is written of what is to be written
+pub written_step : (p q r : Page) (xs ys zs : List (List ℕ)) → q ≡ written p xs → written p zs ≡ r → zs ≡ xs ++ ys → written q ys ≡ r
+written_step p q r xs ys zs e h split = (λ k. written (e k) ys) ∙ (written_twice p xs ys ∙ (ap (written p) (sym split) ∙ h))
+
+-- nothing is left to be written
+pub written_whole : (p r : Page) (zs : List (List ℕ)) → written p zs ≡ r → zs ≡ [] → p ≡ r
+written_whole p r zs h none = sym (written_nothing p) ∙ (ap (written p) (sym none) ∙ h)

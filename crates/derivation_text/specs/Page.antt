@@ -10,4 +10,4 @@ joined_after joined (t ∷ ts) = joined_after (is_opening t) ts
 
 -- the page with these tokens after what it had
 unfoldable pub written : Page → List (List ℕ) → Page
-written p ts = record { text = p.text ++ spaced p.joined ts; joined = joined_after p.joined ts }
+written p ts = record { alloc = p.alloc; text = p.text ++ spaced p.joined ts; joined = joined_after p.joined ts }

@@ -8,6 +8,7 @@ use std::alloc::Global;
 /// A text that is written token after token.
 #[derive(Drop)]
 pub struct Page {
+    pub alloc: Global,
     pub text: Text,
     /// Whether the next token follows without a blank.
     pub joined: bool,
@@ -33,6 +34,7 @@ impl Page {
         ensures joined { result.joined ≡ true }
     {
         Page {
+            alloc,
             text: Text::new(alloc),
             joined: true,
         }

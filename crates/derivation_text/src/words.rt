@@ -97,21 +97,19 @@ fn variable_word(alloc: Global, sig: &Sig, named: &Variable) -> Result<Text, NoM
 
 /// Writes a variable's word.
 pub fn write_variable(
-    alloc: Global,
     page: &mut Page,
     sig: &Sig,
     named: &Variable,
 ) -> Result<(), NoMemory>
     ensures { OnOk result (page.new ≡ written page.old (variable_word sig.now (variable named.now) ∷ [])) }
 {
-    let word = variable_word(alloc, sig, named)?;
+    let word = variable_word(page.alloc, sig, named)?;
     page.token(word.bytes())
 }
 
 #[tactic(auto, using(crate::proofs::Pages::written_nothing, crate::proofs::Scopes::get_variables))]
 /// Writes the variable of that index, nothing where it is out of scope.
 pub fn write_local(
-    alloc: Global,
     page: &mut Page,
     sig: &Sig,
     scope: &[Variable],
@@ -120,14 +118,13 @@ pub fn write_local(
     ensures { OnOk result (page.new ≡ written page.old (local_word sig.now (variables scope.now) index)) }
 {
     match at(scope, index) {
-        Some(named) => write_variable(alloc, page, sig, named),
+        Some(named) => write_variable(page, sig, named),
         None => Ok(()),
     }
 }
 
 /// Writes a terminal as its production writes it.
 pub fn write_terminal(
-    alloc: Global,
     page: &mut Page,
     text: &Text,
     quoted: bool,
@@ -137,7 +134,7 @@ pub fn write_terminal(
     if !quoted {
         return page.token(text.bytes());
     }
-    let mut word = Text::new(alloc);
+    let mut word = Text::new(page.alloc);
     word.push(b"\"")?;
     word.push(text.bytes())?;
     word.push(b"\"")?;

@@ -1,6 +1,6 @@
 -- The printed form of schemes, terms, contexts and judgments: a list of tokens, and its text. To be held against docs/notation.md,
 -- 'Printing'. A term is printed as the scheme without names that it is. What is out of range or out of scope is not printed.
-use Rattle.std.specs.Prelude.{ℕ, ◌+◌, ◌-◌, max, nat_lt, Bool, true, false, ◌==◌, ◌||◌, ◌&&◌, if◌then◌else◌, List, [], ◌∷◌, ◌++◌, length, map, reverse, drop, Option, None, Some, option_map, unwrap_or, slice_get, codes, decimal}
+use Rattle.std.specs.Prelude.{ℕ, ◌+◌, ◌-◌, max, nat_lt, Bool, true, false, ◌==◌, ◌||◌, ◌&&◌, if◌then◌else◌, List, [], ◌∷◌, ◌++◌, length, map, reverse, take, drop, Option, None, Some, option_map, unwrap_or, slice_get, codes, decimal}
 use Rattle.std.specs.List.{list_any}
 use Rattle.binding_terms.specs.Tree as terms
 use Rattle.binding_terms.specs.Tree.{Tree, Args}
@@ -75,14 +75,17 @@ bound_variables bs binds = map (binder_at bs) (reverse binds)
 abbrev pub terminal : (text : List ℕ) (quoted : Bool) → List ℕ
 terminal text quoted = if quoted then codes "\"" ++ (text ++ codes "\"") else text
 
+-- the first of them, or nothing
+abbrev pub first : List (List (List ℕ)) → List (List ℕ)
+first [] = []
+first (x ∷ xs) = x
+
 -- The items in order: the terminals, the words of the binders, and in each slot what stands there.
 abbrev pub laid_out : List Item → (words : List (List ℕ)) → (inside : List (List (List ℕ))) → List (List ℕ)
 laid_out [] ws xs = []
 laid_out (Word text quoted ∷ items) ws xs = terminal text quoted ∷ laid_out items ws xs
-laid_out (Slot c binds ∷ items) ws [] = laid_out items ws []
-laid_out (Slot c binds ∷ items) ws (x ∷ xs) = x ++ laid_out items ws xs
-laid_out (Binder c ∷ items) [] xs = laid_out items [] xs
-laid_out (Binder c ∷ items) (w ∷ ws) xs = w ∷ laid_out items ws xs
+laid_out (Slot c binds ∷ items) ws xs = first xs ++ laid_out items ws (drop 1 xs)
+laid_out (Binder c ∷ items) ws xs = take 1 ws ++ laid_out items (drop 1 ws) xs
 
 -- in parentheses, unless the production is of one token
 abbrev pub grouped : List Item → List (List ℕ) → List (List ℕ)
@@ -130,6 +133,10 @@ abbrev mutual
   subterms sig labels vs bs [] (part n t xs) = []
   subterms sig labels vs bs (s ∷ ss) (part n t xs) =
       argument sig labels (bound_variables bs s.binds ++ vs) t ∷ subterms sig labels vs bs ss xs
+
+-- the items of a production with its binders and subterms
+abbrev pub production : Signature → Labels → (scope binders : List Variable) → List Item → Parts → List (List ℕ)
+production sig labels vs bs items xs = laid_out items (map (variable_word sig) bs) (subterms sig labels vs bs (slots items) xs)
 
 -- the scope with the variables of an entry
 abbrev pub with_entry : Signature → List Variable → (prod : ℕ) → List Variable
@@ -184,7 +191,7 @@ judgment_form ctx [] ts xs = []
 judgment_form ctx (Word text quoted ∷ items) ts xs = terminal text quoted ∷ judgment_form ctx items ts xs
 judgment_form ctx (Slot c binds ∷ items) ts xs =
     if is_context_slot ctx c then ts ++ judgment_form ctx items ts xs
-    else (unwrap_or (slice_get xs 0) [] ++ judgment_form ctx items ts (drop 1 xs))
+    else (first xs ++ judgment_form ctx items ts (drop 1 xs))
 judgment_form ctx (Binder c ∷ items) ts xs = judgment_form ctx items ts xs
 
 -- the judgment of that number, where the context is printed so and adds these variables
