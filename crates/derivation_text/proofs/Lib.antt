@@ -1,3 +1,4 @@
+pub mod Contexts
 pub mod Pages
 pub mod Scopes
 pub mod Terms

@@ -1,10 +1,14 @@
 -- The variables that a scope of the code holds, the innermost first.
 use Rattle.std.specs.Prelude.{ℕ, List, [], ◌∷◌, map}
 use Rattle.binding_terms.specs.Signature.{Signature, slots}
-use Rattle.binding_terms.specs.View.{args_tree}
+use Rattle.binding_terms.specs.View.{tree, args_tree}
+use Rattle.binding_terms.specs.declared.term.Term.{Term}
+use Rattle.scheme_terms.specs.Forms.{SchemeEntry}
+use Rattle.scheme_terms.specs.View.{ground_entry}
+use Rattle.scheme_terms.specs.declared.scheme.Entry.{Entry}
 use Rattle.binding_terms.specs.declared.grammar.Item.{Item}
 use Rattle.binding_terms.specs.declared.term.Arg.{Arg}
-use Rattle.rule_schemes.specs.Printing.{first, laid_out, no_labels, plain_parts, subterms, variable_word}
+use Rattle.rule_schemes.specs.Printing.{argument, first, laid_out, no_labels, plain, plain_entry, plain_parts, subterms, variable_word}
 use Rattle.rule_schemes.specs.Printing as printing
 use Rattle.derivation_text.specs.declared.words.Variable.{Variable}
 
@@ -23,3 +27,14 @@ items_tokens sig vs bs ws items args =
 abbrev pub slot_tokens : Signature → (scope binders : List printing.Variable) → (binds : List ℕ) → List Arg → List (List ℕ)
 slot_tokens sig vs bs binds args =
     first (subterms sig no_labels vs bs (record { cat = 0; binds = binds } ∷ []) (plain_parts (args_tree args)))
+
+-- terms as arguments
+abbrev pub terms_tokens : Signature → (scope : List printing.Variable) → List Term → List (List (List ℕ))
+terms_tokens sig vs ts = map (argument sig no_labels vs) (map plain (map tree ts))
+
+-- entries as schemes
+abbrev pub entry_scheme : Entry → SchemeEntry
+entry_scheme e = plain_entry (ground_entry e)
+
+abbrev pub plain_entries : List Entry → List SchemeEntry
+plain_entries es = map plain_entry (map ground_entry es)

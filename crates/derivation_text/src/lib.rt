@@ -1,6 +1,7 @@
 //! Judgments and derivations as text.
 #![tactic(auto)]
 
+mod context;
 mod page;
 mod term;
 mod words;

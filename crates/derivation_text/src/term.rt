@@ -83,7 +83,7 @@ fn write_items(
 }
 
 /// Writes the word of the binder with that number, where there is one.
-fn write_binder(
+pub fn write_binder(
     page: &mut Page,
     sig: &Sig,
     binders: &[Variable],
