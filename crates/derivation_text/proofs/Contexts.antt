@@ -1,13 +1,14 @@
 -- Entries and their arguments, one step on.
-use Rattle.std.proofs.Common.{◌≡◌, ℕ, zero, suc, ◌+◌, List, [], ◌∷◌, ◌++◌, map, reverse, drop, Option, Some, None, option_map, unwrap_or, refl, ap, sym, ◌∙◌, add-one}
-use Rattle.std.proofs.lemmas.List.{map-append, reverse-append}
+use Rattle.std.proofs.Common.{◌≡◌, ℕ, zero, suc, ◌+◌, List, [], ◌∷◌, ◌++◌, length, map, reverse, drop, Option, Some, None, option_map, unwrap_or, refl, ap, sym, ◌∙◌, add-one}
+use Rattle.std.proofs.lemmas.List.{map-append, reverse-append, length-map}
 use Rattle.binding_terms.specs.Signature.{Signature}
 use Rattle.binding_terms.specs.declared.grammar.CatId.{CatId}
 use Rattle.binding_terms.specs.declared.term.Term.{Term}
-use Rattle.scheme_terms.specs.View.{context_value}
+use Rattle.scheme_terms.specs.View.{context_value, ground_entry}
+use Rattle.scheme_terms.specs.declared.scheme.Entry.{Entry}
 use Rattle.scheme_terms.specs.declared.scheme.CtxValue.{CtxValue}
 use Rattle.rule_schemes.specs.Printing as printing
-use Rattle.rule_schemes.specs.Printing.{empty_form, entries_tokens, no_labels, value_tokens}
+use Rattle.rule_schemes.specs.Printing.{empty_form, entries_tokens, no_labels, plain_entry, value_tokens}
 use Rattle.derivation_text.specs.declared.page.Page.{Page}
 use Rattle.derivation_text.specs.declared.words.Variable as words
 use Rattle.derivation_text.specs.Page.{written}
@@ -44,3 +45,17 @@ value_written p q r sig v start rest =
     start_same : (cat : Option CatId) → unwrap_or (option_map (λ c. empty_form sig c.0) cat) [] ≡ unwrap_or (option_map (empty_form sig) (option_map (λ c. c.0) cat)) []
     start_same None = refl
     start_same (Some c) = refl
+
+drop_ground : (n : ℕ) (es : List Entry) → map ground_entry (drop n es) ≡ drop n (map ground_entry es)
+drop_ground zero es = refl
+drop_ground (suc n) [] = refl
+drop_ground (suc n) (e ∷ es) = drop_ground n es
+
+-- the entries of a context after those of the root
+pub entries_after_root : (root value : CtxValue)
+    → plain_entries (drop (length root.entries) value.entries)
+    ≡ map plain_entry (drop (length (context_value root).entries) (context_value value).entries)
+entries_after_root root value =
+    ap (map plain_entry)
+    (drop_ground (length root.entries) value.entries
+    ∙ ap (λ n. drop n (map ground_entry value.entries)) (sym (length-map root.entries ground_entry)))

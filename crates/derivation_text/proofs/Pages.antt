@@ -1,7 +1,7 @@
 -- Tokens written one after another.
-use Rattle.std.proofs.Common.{◌≡◌, ℕ, Bool, List, [], ◌∷◌, ◌++◌, if◌then◌else◌, refl, ap, sym, ◌∙◌, append_assoc}
+use Rattle.std.proofs.Common.{◌≡◌, ℕ, Bool, true, List, [], ◌∷◌, ◌++◌, if◌then◌else◌, refl, ap, sym, ◌∙◌, append_assoc}
 use Rattle.std.proofs.lemmas.List.{append-nil}
-use Rattle.rule_schemes.specs.Printing.{spaced, is_opening, is_closing}
+use Rattle.rule_schemes.specs.Printing.{spaced, is_opening, is_closing, text_of}
 use Rattle.derivation_text.specs.Page.{joined_after, written}
 use Rattle.derivation_text.specs.declared.page.Page.{Page}
 
@@ -29,3 +29,12 @@ written_step p q r xs ys zs e h split = (λ k. written (e k) ys) ∙ (written_tw
 -- nothing is left to be written
 pub written_whole : (p r : Page) (zs : List (List ℕ)) → written p zs ≡ r → zs ≡ [] → p ≡ r
 written_whole p r zs h none = sym (written_nothing p) ∙ (ap (written p) (sym none) ∙ h)
+
+-- two pieces, one after another
+pub written_pair : (p q r : Page) (xs ys : List (List ℕ)) → q ≡ written p xs → r ≡ written q ys → r ≡ written p (xs ++ ys)
+written_pair p q r xs ys e h = h ∙ ((λ k. written (e k) ys) ∙ written_twice p xs ys)
+
+-- the text of a page that began empty
+pub page_text : (p q : Page) (ts : List (List ℕ)) → q ≡ written p ts → p.text ≡ [] → p.joined ≡ true → q.text ≡ text_of ts
+unfolding written
+page_text p q ts e none first = (λ k. (e k).text) ∙ (λ k. none k ++ spaced (first k) ts)

@@ -1,5 +1,5 @@
 -- Items and arguments, one step on.
-use Rattle.std.proofs.Common.{◌≡◌, ℕ, zero, suc, ◌+◌, ◌<◌, ◌≤◌, Bool, List, [], ◌∷◌, ◌++◌, map, take, drop, length, get_or, refl, ap, subst, sym, ◌∙◌, add-one}
+use Rattle.std.proofs.Common.{◌≡◌, ℕ, zero, suc, ◌+◌, ◌<◌, ◌≤◌, Bool, true, false, if◌then◌else◌, Option, List, [], ◌∷◌, ◌++◌, map, take, drop, length, get_or, refl, ap, subst, sym, ◌∙◌, add-one}
 use Rattle.std.proofs.lemmas.List.{drop_more}
 use Rattle.binding_terms.specs.Tree.{nodes, arg_nodes}
 use Rattle.binding_terms.specs.View.{tree, args_tree}
@@ -10,7 +10,7 @@ use Rattle.binding_terms.specs.declared.grammar.Item.{Item}
 use Rattle.binding_terms.specs.declared.grammar.Item.TheVariants.{Word, Slot, Binder}
 use Rattle.binding_terms.specs.declared.term.Arg.{Arg}
 use Rattle.rule_schemes.specs.Printing as printing
-use Rattle.rule_schemes.specs.Printing.{terminal, first, laid_out, subterms, no_labels, plain_parts, variable_word}
+use Rattle.rule_schemes.specs.Printing.{terminal, first, is_context_slot, judgment_form, laid_out, subterms, no_labels, plain_parts, variable_word}
 use Rattle.derivation_text.specs.declared.words.Variable as words
 use Rattle.derivation_text.specs.View.{variables, items_tokens, slot_tokens}
 
@@ -86,3 +86,14 @@ slot_step sig vs bs ws items args i n item c binds h is same =
     ∙ (λ k. first_subterm sig vs bs c.0 binds (slots (drop (i + 1) items)) (drop n args) k
       ++ laid_out (drop (i + 1) items) (map (variable_word sig) ws)
       (subterms_more sig vs bs (record { cat = c.0; binds = binds }) (slots (drop (i + 1) items)) args n k))
+
+-- a slot of a judgment's form
+pub context_step : (ctx : Option CatId) (c : CatId) (binds : List ℕ) (items : List Item) (ts : List (List ℕ)) (xs : List (List (List ℕ)))
+    → is_context_slot ctx c ≡ true → judgment_form ctx (Slot c binds ∷ items) ts xs ≡ ts ++ judgment_form ctx items ts xs
+context_step ctx c binds items ts xs h =
+    ap (λ b. if b then ts ++ judgment_form ctx items ts xs else (first xs ++ judgment_form ctx items ts (drop 1 xs))) h
+
+pub argument_step : (ctx : Option CatId) (c : CatId) (binds : List ℕ) (items : List Item) (ts : List (List ℕ)) (xs : List (List (List ℕ)))
+    → is_context_slot ctx c ≡ false → judgment_form ctx (Slot c binds ∷ items) ts xs ≡ first xs ++ judgment_form ctx items ts (drop 1 xs)
+argument_step ctx c binds items ts xs h =
+    ap (λ b. if b then ts ++ judgment_form ctx items ts xs else (first xs ++ judgment_form ctx items ts (drop 1 xs))) h

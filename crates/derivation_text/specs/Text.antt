@@ -25,11 +25,14 @@ same_trees [] [] = true
 same_trees (t ∷ ts) (u ∷ us) = same_tree t u && same_trees ts us
 same_trees _ _ = false
 
+abbrev pub same_entry : GroundEntry → GroundEntry → Bool
+same_entry d e = (d.prod == e.prod) && same_trees d.args e.args
+
 -- whether the second entries begin with the first
 abbrev pub are_first : List GroundEntry → List GroundEntry → Bool
 are_first [] es = true
 are_first (d ∷ ds) [] = false
-are_first (d ∷ ds) (e ∷ es) = (d.prod == e.prod) && (same_trees d.args e.args && are_first ds es)
+are_first (d ∷ ds) (e ∷ es) = same_entry d e && are_first ds es
 
 abbrev pub same_category : Option ℕ → Option ℕ → Bool
 same_category (Some c) (Some d) = c == d
@@ -78,7 +81,7 @@ line th root n j r ns =
 -- the tree and of the tree's nodes.
 abbrev pub numbers : (before : ℕ) → Subtrees → List ℕ
 numbers n no_more = []
-numbers n (subtree d ds) = n + size d ∷ numbers (n + size d) ds
+numbers n (subtree d ds) = (n + size d) ∷ numbers (n + size d) ds
 
 abbrev mutual
   -- the lines of a tree: those of its premises, from the first, and its own

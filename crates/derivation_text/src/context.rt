@@ -1,16 +1,19 @@
-ghost use Rattle.std.specs.Prelude.{◌≡◌, [], ◌∷◌, ◌++◌, map, drop, IfOk, OnOk, option_map, unwrap_or};
-ghost use Rattle.std.specs.List.{list_all};
+ghost use Rattle.std.specs.Prelude.{◌≡◌, [], ◌∷◌, ◌++◌, ◌≤◌, map, drop, length, IfOk, OnOk, Some, option_map, unwrap_or};
+ghost use Rattle.std.specs.Option.{option_copied};
 ghost use Rattle.binding_terms.specs.Signature.{is_empty_form};
 ghost use Rattle.scheme_terms.specs.View.{context_value};
-ghost use Rattle.rule_schemes.specs.Printing.{empty_form, entries_tokens, entry_tokens, first, laid_out, no_labels, value_tokens, value_variables, variable_word, with_entries, with_entry};
+ghost use Rattle.rule_schemes.specs.Printing.{category_name, empty_form, entries_tokens, entry_tokens, first, laid_out, no_labels, value_tokens, value_variables, variable_word, with_entries, with_entry};
 ghost use Rattle.derivation_text.specs.Page.{written};
-ghost use Rattle.derivation_text.specs.View.{entry_scheme, plain_entries, terms_tokens, variables};
+ghost use Rattle.derivation_text.specs.Text.{after_root, context_from};
+ghost use Rattle.derivation_text.specs.View.{entry_scheme, plain_entries, root_value, terms_tokens, variables};
 
 use crate::page::Page;
+use crate::same::begins_with;
 use crate::term::{write_binder, write_term};
 use crate::words::{Variable, items_of, numbered, write_terminal};
 use binding_terms::{CatId, Item, NoMemory, Prod, ProdId, Sig, Term};
 use scheme_terms::{CtxValue, Entry};
+use sqlite_items::at;
 use std::alloc::Global;
 
 /// Writes the term with that number, where there is one.
@@ -170,4 +173,82 @@ pub fn write_value(page: &mut Page, sig: &Sig, value: &CtxValue) -> Result<(), N
 {
     write_start(page, sig, value.cat)?;
     write_entries(page, sig, Vec::new(page.alloc), value.entries.as_slice())
+}
+
+/// The name of a category, empty where it is out of range.
+fn category_name(sig: &Sig, cat: CatId) -> &[u8]
+    ensures { result.now ≡ category_name sig.now cat.0 }
+{
+    match at(sig.cats().as_slice(), cat.0 as usize) {
+        Some(cat) => cat.name.bytes(),
+        None => b"",
+    }
+}
+
+/// The name of the root's category.
+fn root_name<'a>(sig: &'a Sig, root: &CtxValue) -> &'a [u8]
+    ensures { result.now ≡ unwrap_or (option_map (category_name sig.now) (context_value root.now).cat) [] }
+{
+    match root.cat {
+        Some(cat) => category_name(sig, cat),
+        None => b"",
+    }
+}
+
+/// The entries after the first ones.
+fn entries_after(entries: &[Entry], count: usize) -> &[Entry]
+    ensures { result.now ≡ drop count entries.now }
+{
+    if count >= entries.len() {
+        return &[];
+    }
+    &entries[count..]
+}
+
+/// Writes a context that begins with the root, with the name of the root's category in place of the root.
+fn write_after_root(
+    page: &mut Page,
+    sig: &Sig,
+    root: &CtxValue,
+    value: &CtxValue,
+) -> Result<(), NoMemory>
+    ensures { OnOk result (page.new ≡ written page.old (after_root sig.now (context_value root.now) (context_value value.now))) }
+{
+    let scope = scope_of(page.alloc, sig, root.entries.as_slice())?;
+    page.token(root_name(sig, root))?;
+    let rest = entries_after(value.entries.as_slice(), root.entries.len());
+    write_entries(page, sig, scope, rest)?;
+    Ok(())
+}
+
+/// Writes a context, from the name of the root's category on where it begins with the root.
+pub fn write_context(
+    page: &mut Page,
+    sig: &Sig,
+    root: Option<&CtxValue>,
+    value: &CtxValue,
+) -> Result<(), NoMemory>
+    ensures { OnOk result (page.new ≡ written page.old
+        (context_from sig.now (root_value (option_copied root.entry)) (context_value value.now))) }
+{
+    match root {
+        Some(root) => write_from(page, sig, root, value),
+        None => write_value(page, sig, value),
+    }
+}
+
+/// Writes a context where a root is given.
+fn write_from(
+    page: &mut Page,
+    sig: &Sig,
+    root: &CtxValue,
+    value: &CtxValue,
+) -> Result<(), NoMemory>
+    ensures { OnOk result (page.new ≡ written page.old
+        (context_from sig.now (Some (context_value root.now)) (context_value value.now))) }
+{
+    if begins_with(root, value) {
+        return write_after_root(page, sig, root, value);
+    }
+    write_value(page, sig, value)
 }
