@@ -1,4 +1,3 @@
 pub mod ClosedForms
 pub mod Made
-pub mod Renumbering
 pub mod RuleSteps

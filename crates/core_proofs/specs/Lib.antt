@@ -1,4 +1,5 @@
-pub mod Renumbered
+pub mod FormEquations
+pub mod Plain
 pub mod RuleStep
 pub mod Step
 pub mod Proof

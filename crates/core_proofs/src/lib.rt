@@ -2,9 +2,8 @@
 #![tactic(auto)]
 
 mod laws;
-mod renumber;
+mod rule_step;
 mod step;
 
 pub use laws::{makes_derives, rule_step_derives};
-pub use renumber::renumbered;
 pub use step::{CoreStep, StepId};
