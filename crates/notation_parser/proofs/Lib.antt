@@ -1,2 +1,5 @@
 pub mod Copies
+pub mod Finding
+pub mod Pieces
 pub mod Splitting
+pub mod TermCases

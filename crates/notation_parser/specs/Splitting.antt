@@ -33,3 +33,10 @@ AreWithin n (p ∷ ps) = (p.from ≤ p.to) × (p.to ≤ n) × AreWithin n ps
 abbrev pub longest : List Piece → ℕ
 longest [] = 0
 longest (p ∷ ps) = max (p.to - p.from) (longest ps)
+
+-- each slot of a split reads, with no variable in scope
+abbrev pub ReadsPieces : Signature → List MetaDecl → List Token → List Piece → Parts → Type 0
+ReadsPieces sig metas ts [] xs = xs ≡ no_parts
+ReadsPieces sig metas ts (p ∷ ps) no_parts = ⊥
+ReadsPieces sig metas ts (p ∷ ps) (part n s xs) =
+    (n ≡ p.binds) × ReadsTerm sig metas [] p.cat.0 (slice_range ts p.from p.to) s × ReadsPieces sig metas ts ps xs

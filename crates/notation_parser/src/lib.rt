@@ -4,4 +4,5 @@
 mod firsts;
 mod schemes;
 mod splits;
+mod terms;
 mod words;
