@@ -1,4 +1,3 @@
-pub mod Copies
 pub mod Finding
 pub mod Pieces
 pub mod Splitting

@@ -126,11 +126,11 @@ module _ (sig : Signature) (metas : List MetaDecl) (none : AllByRecursion (λ (k
     λ s. read_split ts items 0 s.0 xs (omega arith) ((splits s.0).1 s.1) s.2,
   )
 
-  -- what reads as slots one after another reads as the last of them
-  pub suffix_reads : (ts : List Token) (front ps : List Piece) (xs : Parts) → ReadsPieces sig metas ts (front ++ ps) xs → (ys : Parts) × ReadsPieces sig metas ts ps ys
-  suffix_reads ts [] ps xs r = (xs, r)
-  suffix_reads ts (p ∷ front) ps no_parts r = absurd r
-  suffix_reads ts (p ∷ front) ps (part n x xs) r = suffix_reads ts front ps xs r.2
+-- what reads as slots one after another reads as the last of them
+pub suffix_reads : (sig : Signature) (metas : List MetaDecl) (ts : List Token) (front ps : List Piece) (xs : Parts) → ReadsPieces sig metas ts (front ++ ps) xs → (ys : Parts) × ReadsPieces sig metas ts ps ys
+suffix_reads sig metas ts [] ps xs r = (xs, r)
+suffix_reads sig metas ts (p ∷ front) ps no_parts r = absurd r
+suffix_reads sig metas ts (p ∷ front) ps (part n x xs) r = suffix_reads sig metas ts front ps xs r.2
 
 pub one_more_back : (ps : List Piece) (j : ℕ) (p : Piece) → j < length ps → reverse (take (j + 1) ps) ≡ get_or ps j p ∷ reverse (take j ps)
 one_more_back ps j p h = ap reverse (take_more ps j p h) ∙ reverse-append (take j ps) (get_or ps j p ∷ [])

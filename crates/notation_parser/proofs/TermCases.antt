@@ -1,7 +1,7 @@
 -- The readings of a term by their cases, and of a production by its splits.
-use Rattle.std.proofs.Common.{◌≡◌, ◌≢◌, ◌⊎◌, ◌↔◌, ℕ, zero, suc, ◌+◌, ◌-◌, ◌<◌, ◌≤◌, List, [], ◌∷◌, ◌++◌, length, map, take, drop, reverse, inl, inr, refl, ap, ◌∙◌, sym, subst, get_or, arith, Option, Some, None, slice_get, slice_range}
+use Rattle.std.proofs.Common.{◌≡◌, ◌≢◌, ◌⊎◌, ◌↔◌, ℕ, zero, suc, ◌+◌, ◌-◌, ◌<◌, ◌≤◌, List, [], ◌∷◌, ◌++◌, length, map, take, drop, reverse, inl, inr, refl, ap, ◌∙◌, sym, subst, get_or, length-take, arith, Option, Some, None, slice_get, slice_range}
 use Rattle.std.specs.List.{Contains, AllByRecursion}
-use Rattle.std.proofs.lemmas.List.{take_more, take_all}
+use Rattle.std.proofs.lemmas.List.{take_more, take_all, take-map, drop-map, take-append-drop, reverse-append, map_more, map-append, append_cancel_right}
 use Rattle.std.proofs.lemmas.List.Elements.{Contains-push, Contains-push_cases, Contains-append_left}
 use Rattle.std.proofs.lemmas.Bool.{cases_lt}
 use Rattle.std.proofs.lemmas.Option.{slice_get-get_or, get_or_from_slice_get, slice_get_within}
@@ -10,14 +10,15 @@ use Rattle.binding_terms.specs.declared.grammar.Item.{Item}
 use Rattle.binding_terms.specs.declared.grammar.Prod.{Prod}
 use Rattle.scheme_terms.specs.SchemeTree.{SchemeTree, meta, con, Values, no_values, Parts, no_parts, part}
 use Rattle.scheme_terms.specs.declared.scheme.MetaDecl.{MetaDecl}
-use Rattle.rule_schemes.specs.Reading.{Token, word, Variable, Means, variables_of, ReadsTerm, group, metavariable, variable, production, ReadsBrackets, no_brackets, brackets, ReadsArguments, one_more, last_one, ReadsItems}
+use Rattle.rule_schemes.specs.Reading.{Token, word, punctuation, Variable, Means, variables_of, ReadsTerm, group, metavariable, variable, production, ReadsBrackets, no_brackets, brackets, ReadsArguments, one_more, last_one, ReadsItems}
 use Rattle.notation_parser.specs.Cases.{IsGroup, IsName, IsNameOf, IsNameBelow, IsMade, IsProduct, IsReadBelow}
-use Rattle.notation_parser.specs.Firsts.{AreFirst, paired, part_after}
+use Rattle.notation_parser.specs.Firsts.{AreFirst, AreJoined, paired, part_after}
 use Rattle.notation_parser.specs.Plain.{NothingBinds}
-use Rattle.notation_parser.specs.Splitting.{AreSplits, ReadsPieces}
+use Rattle.notation_parser.specs.Splitting.{IsSplit, AreSplits, ReadsPieces}
 use Rattle.notation_parser.specs.declared.splits.Piece.{Piece}
-use Rattle.notation_parser.proofs.Finding.{AreFirst-same, AreFirst-paired}
-use Rattle.notation_parser.proofs.Pieces.{no_words, items_read, one_more_back}
+use Rattle.notation_parser.proofs.Finding.{AreFirst-same, AreFirst-paired, AreFirst-joined, AreFirst-map}
+use Rattle.notation_parser.proofs.Pieces.{no_words, items_read, one_more_back, suffix_reads}
+use Rattle.notation_parser.proofs.Splitting.{contains_map}
 
 -- the metavariables below one number more
 pub one_name_more : (metas : List MetaDecl) (c : ℕ) (ts : List Token) (n : ℕ) (decl : MetaDecl) (s : SchemeTree) → slice_get metas n ≡ Some decl
@@ -117,7 +118,7 @@ term_read sig metas c ts n s plain h = (back, λ r. there r refl)
         let bare : map (λ p. p.0) (k.1).params ≡ [] = ap (map (λ p. p.0)) (bare_metas metas k.0 k.1 plain.parameters k.2) in
         subst (ReadsTerm sig metas [] c ts) (sym (k.3).2)
         (metavariable (k.3).1 k.2 (k.3).0 (subst (λ ps. ReadsBrackets sig metas [] ps [] no_values) (sym bare) no_brackets))
-    back (inr (inr k)) = ?
+    back (inr (inr k)) = subst (ReadsTerm sig metas [] c ts) (sym k.2.3.1) (production {words = []} k.2.1 k.2.2 k.2.3.2)
 
 -- a product read in one of the splits
 abbrev pub IsMadeIn : Signature → List MetaDecl → (number : ℕ) → List Token → List (List Piece) → SchemeTree → Type 0
@@ -160,3 +161,101 @@ slot_more sig metas ts p ps bodies found f g =
         → ((a : SchemeTree) × (b : Parts) × (xs ≡ part_after p.binds a b) × ReadsTerm sig metas [] p.cat.0 (slice_range ts p.from p.to) a × ReadsPieces sig metas ts ps b)
     back no_parts h = absurd h
     back (part n a b) h = (a, b, ap (λ m. part m a b) h.0, h.1, h.2)
+
+pub all_at : {X : Type 0} (P : X → Type 0) (xs : List X) (n : ℕ) (x : X) → AllByRecursion P xs → slice_get xs n ≡ Some x → P x
+all_at P [] n x all e = absurd (cc)
+all_at P (y ∷ xs) zero x all e = let same : y ≡ x = cc in subst P same all.0
+all_at P (y ∷ xs) (suc n) x all e = all_at P xs n x all.1 e
+
+-- what reading a place past the end would give
+abbrev pub no_piece : Piece
+no_piece = record { cat = record { 0 = 0 }; binds = 0; from = 0; to = 0 }
+
+pub slice_short : {X : Type 0} (xs : List X) (a b : ℕ) → length (slice_range xs a b) ≤ b - a
+slice_short xs a b = omega (arith, length-take (b - a) (drop a xs))
+
+pub map_slice : {X Y : Type 0} (f : X → Y) (xs : List X) (a b : ℕ) → map f (slice_range xs a b) ≡ slice_range (map f xs) a b
+map_slice f xs a b = sym (take-map f (b - a) (drop a xs)) ∙ ap (take (b - a)) (sym (drop-map f a xs))
+
+pub back_in_two : (ps : List Piece) (j : ℕ) → reverse ps ≡ reverse (drop j ps) ++ reverse (take j ps)
+back_in_two ps j = ap reverse (sym (take-append-drop j ps)) ∙ reverse-append (take j ps) (drop j ps)
+
+-- nothing is read once some of the slots do not read
+pub none_read : (sig : Signature) (metas : List MetaDecl) (ts : List Token) (ps : List Piece) (j : ℕ) (found : List Parts)
+    → AreFirst (ReadsPieces sig metas ts (reverse (take j ps))) found → found ≡ [] → AreFirst (ReadsPieces sig metas ts (reverse ps)) found
+none_read sig metas ts ps j found f e =
+    let none : (xs : Parts) → ReadsPieces sig metas ts (reverse (take j ps)) xs → ⊥ = subst (AreFirst (ReadsPieces sig metas ts (reverse (take j ps)))) e f in
+    let never : AreFirst (ReadsPieces sig metas ts (reverse ps)) [] =
+    λ xs r. (let s = suffix_reads sig metas ts (reverse (drop j ps)) (reverse (take j ps)) xs (subst (λ qs. ReadsPieces sig metas ts qs xs) (back_in_two ps j) r) in none s.0 s.1) in
+    subst (AreFirst (ReadsPieces sig metas ts (reverse ps))) (sym e) never
+
+-- the readings in one split more
+pub made_more : (sig : Signature) (metas : List MetaDecl) (p : ℕ) (ts : List Token) (all : List (List Piece)) (j : ℕ) (split : List Piece)
+    (found more new : List SchemeTree) (slots : List Parts) → j < length all → split ≡ get_or all j split
+    → AreFirst (IsMadeIn sig metas p ts (map reverse (take j all))) found → AreFirst (ReadsPieces sig metas ts (reverse split)) slots
+    → more ≡ map (con p) slots → AreJoined found more new → AreFirst (IsMadeIn sig metas p ts (map reverse (take (j + 1) all))) new
+made_more sig metas p ts all j split found more new slots lt is f g e joined =
+    let last : map reverse (take (j + 1) all) ≡ map reverse (take j all) ++ reverse split ∷ [] =
+    map_more reverse all j split lt ∙ ap (λ s. map reverse (take j all) ++ reverse s ∷ []) (sym is) in
+    let here : AreFirst (λ s. (xs : Parts) × (s ≡ con p xs) × ReadsPieces sig metas ts (reverse split) xs) more =
+    subst (AreFirst (λ s. (xs : Parts) × (s ≡ con p xs) × ReadsPieces sig metas ts (reverse split) xs)) (sym e)
+    (AreFirst-map (con p) (ReadsPieces sig metas ts (reverse split)) slots (λ a b k. cc) g) in
+    subst (λ qs. AreFirst (IsMadeIn sig metas p ts qs) new) (sym last)
+    (AreFirst-same _ (IsMadeIn sig metas p ts (map reverse (take j all) ++ reverse split ∷ [])) new
+    (λ s. one_split_more sig metas p ts (map reverse (take j all)) (reverse split) s)
+    (AreFirst-joined (IsMadeIn sig metas p ts (map reverse (take j all))) (λ s. (xs : Parts) × (s ≡ con p xs) × ReadsPieces sig metas ts (reverse split) xs) found more new joined f here))
+
+pub made_before : (sig : Signature) (metas : List MetaDecl) (p : ℕ) (ts : List Token) (all : List (List Piece)) (j : ℕ) (s : SchemeTree)
+    → IsMadeIn sig metas p ts (map reverse (take j all)) s → IsMadeIn sig metas p ts (map reverse all) s
+made_before sig metas p ts all j s h =
+    let two : map reverse (take j all) ++ map reverse (drop j all) ≡ map reverse all =
+    sym (map-append reverse (take j all) (drop j all)) ∙ ap (map reverse) (take-append-drop j all) in
+    (h.0, subst (λ qs. Contains qs h.0) two (Contains-append_left (map reverse (take j all)) (map reverse (drop j all)) h.0 h.1), h.2)
+
+pub split_at : (ts : List Token) (items : List Item) (all : List (List Piece)) (j : ℕ) (split : List Piece) → AreSplits ts items 0 (map reverse all)
+    → j < length all → split ≡ get_or all j split → IsSplit ts items 0 (reverse split)
+split_at ts items all j split splits lt is =
+    (splits (reverse split)).1 ((contains_map reverse all (reverse split)).1 (split, refl, (j, lt, sym is)))
+
+pub is_product : (sig : Signature) (metas : List MetaDecl) (p c : ℕ) (ts : List Token) (prod : Prod) (s : SchemeTree) → slice_get sig.prods p ≡ Some prod → prod.cat.0 ≡ c
+    → IsMade sig metas p prod.items ts s ↔ IsProduct sig metas p c ts s
+is_product sig metas p c ts prod s found cat = (λ m. (prod, found, cat, m), back)
+  where
+    back : IsProduct sig metas p c ts s → IsMade sig metas p prod.items ts s
+    back h =
+        let two : Some (h.0) ≡ Some prod = sym h.1 ∙ found in
+        let same : h.0 ≡ prod = cc in
+        subst (λ (q : Prod). IsMade sig metas p q.items ts s) same h.3
+
+pub more_products : (sig : Signature) (metas : List MetaDecl) (c : ℕ) (ts : List Token) (n m : ℕ) (s : SchemeTree) → n ≤ m
+    → IsReadBelow n sig metas c ts s → IsReadBelow m sig metas c ts s
+more_products sig metas c ts n m s le (inl h) = inl h
+more_products sig metas c ts n m s le (inr (inl h)) = inr (inl h)
+more_products sig metas c ts n m s le (inr (inr h)) = inr (inr (h.0, omega (arith, h.1), h.2))
+
+-- what stands between the first token and the last
+pub in_parentheses : (ts : List Token) (d : Token) → 2 ≤ length ts → get_or ts 0 d ≡ punctuation 40 → get_or ts (length ts - 1) d ≡ punctuation 41
+    → ts ≡ punctuation 40 ∷ (slice_range ts 1 (length ts - 1) ++ punctuation 41 ∷ [])
+in_parentheses [] d h first last = absurd (omega arith)
+in_parentheses (t ∷ ts) d h first last =
+    let n = length ts - 1 in
+    let lt : n < length ts = omega arith in
+    let e : length (t ∷ ts) - 1 ≡ suc n = omega arith in
+    let m : length (t ∷ ts) - 1 - 1 ≡ n = omega arith in
+    let ends : get_or ts n d ≡ punctuation 41 = ap (λ k. get_or (t ∷ ts) k d) (sym e) ∙ last in
+    let all : take (n + 1) ts ≡ ts = take_all (n + 1) ts (omega arith) in
+    let rest : ts ≡ take n ts ++ punctuation 41 ∷ [] = sym all ∙ take_more ts n d lt ∙ ap (λ u. take n ts ++ u ∷ []) ends in
+    let mid : slice_range (t ∷ ts) 1 (length (t ∷ ts) - 1) ≡ take n ts = ap (λ k. take k ts) m in
+    ap (λ u. u ∷ ts) first ∙ ap (λ us. punctuation 40 ∷ us) (rest ∙ ap (λ us. us ++ punctuation 41 ∷ []) (sym mid))
+
+pub is_group : (sig : Signature) (metas : List MetaDecl) (c : ℕ) (ts : List Token) (d : Token) (s : SchemeTree) → 2 ≤ length ts → get_or ts 0 d ≡ punctuation 40
+    → get_or ts (length ts - 1) d ≡ punctuation 41 → ReadsTerm sig metas [] c (slice_range ts 1 (length ts - 1)) s ↔ IsGroup sig metas c ts s
+is_group sig metas c ts d s h first last = (λ r. (slice_range ts 1 (length ts - 1), in_parentheses ts d h first last, r), back)
+  where
+
+    back : IsGroup sig metas c ts s → ReadsTerm sig metas [] c (slice_range ts 1 (length ts - 1)) s
+    back k =
+        let mid = slice_range ts 1 (length ts - 1) in
+        let two : punctuation 40 ∷ (k.0 ++ punctuation 41 ∷ []) ≡ punctuation 40 ∷ (mid ++ punctuation 41 ∷ []) = sym k.1 ∙ in_parentheses ts d h first last in
+        let inner : k.0 ++ punctuation 41 ∷ [] ≡ mid ++ punctuation 41 ∷ [] = cc in
+        subst (λ us. ReadsTerm sig metas [] c us s) (append_cancel_right k.0 mid (punctuation 41 ∷ []) inner) k.2

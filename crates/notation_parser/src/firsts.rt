@@ -2,9 +2,8 @@ ghost use Rattle.std.specs.Prelude.{◌≡◌, ◌↔◌, IsTrue, IfOk, [], ◌�
 ghost use Rattle.scheme_terms.specs.View.{scheme, scheme_part};
 ghost use Rattle.notation_parser.specs.Firsts.{listed, AreJoined, paired, IsFull, backwards, part_after};
 
-use crate::schemes::{copy, copy_parts, same};
 use binding_terms::NoMemory;
-use scheme_terms::{SArg, Scheme};
+use scheme_terms::{SArg, Scheme, copy_scheme, same_scheme};
 use sqlite_items::Items;
 use std::alloc::Global;
 
@@ -44,13 +43,13 @@ fn one_joined(a: Scheme, second: Firsts<Scheme>) -> Firsts<Scheme>
     match second {
         Firsts::Nothing => Firsts::One(a),
         Firsts::One(b) => {
-            if same(&a, &b) {
+            if same_scheme(&a, &b) {
                 return Firsts::One(a);
             }
             Firsts::Two(a, b)
         }
         Firsts::Two(b, c) => {
-            if same(&a, &b) {
+            if same_scheme(&a, &b) {
                 return Firsts::Two(a, c);
             }
             Firsts::Two(a, b)
@@ -65,10 +64,18 @@ fn with_part(mut parts: Items<SArg>, binds: usize, body: Scheme) -> Result<Items
     Ok(parts)
 }
 
-fn again(alloc: Global, parts: &Items<SArg>) -> Result<Items<SArg>, NoMemory>
-    ensures { IfOk result (λ new. backwards new ≡ backwards parts.now) }
+fn again(alloc: Global, parts: &[SArg]) -> Result<Items<SArg>, NoMemory>
+    ensures { IfOk result (λ new. map scheme_part new ≡ map scheme_part parts.now) }
 {
-    copy_parts(alloc, parts.as_slice())
+    let mut all = Items::new(alloc);
+    for part in parts {
+        let body = copy_scheme(alloc, &part.body)?;
+        all.push(SArg {
+            binds: part.binds,
+            body,
+        })?;
+    }
+    Ok(all)
 }
 
 /// Each of the parts with each of the bodies after it, the first two of these.
@@ -85,15 +92,15 @@ pub fn extended(
         (_, Firsts::Nothing) => Ok(Firsts::Nothing),
         (Firsts::One(a), Firsts::One(x)) => Ok(Firsts::One(with_part(x, binds, a)?)),
         (Firsts::Two(a, b), Firsts::One(x)) => {
-            let y = again(alloc, &x)?;
+            let y = again(alloc, x.as_slice())?;
             Ok(Firsts::Two(with_part(x, binds, a)?, with_part(y, binds, b)?))
         }
         (Firsts::One(a), Firsts::Two(x, y)) => {
-            let b = copy(alloc, &a)?;
+            let b = copy_scheme(alloc, &a)?;
             Ok(Firsts::Two(with_part(x, binds, a)?, with_part(y, binds, b)?))
         }
         (Firsts::Two(a, _), Firsts::Two(x, y)) => {
-            let b = copy(alloc, &a)?;
+            let b = copy_scheme(alloc, &a)?;
             Ok(Firsts::Two(with_part(x, binds, a)?, with_part(y, binds, b)?))
         }
     }

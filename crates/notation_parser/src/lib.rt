@@ -2,7 +2,6 @@
 #![tactic(auto)]
 
 mod firsts;
-mod schemes;
 mod splits;
 mod terms;
 mod words;

@@ -1,4 +1,4 @@
-ghost use Rattle.std.specs.Prelude.{◌≡◌, ◌≢◌, ◌↔◌, ◌<◌, IsTrue, IfOk, [], ◌∷◌, map, reverse, length};
+ghost use Rattle.std.specs.Prelude.{◌≡◌, ◌≢◌, ◌↔◌, ◌<◌, ◌≤◌, IsTrue, IfOk, [], map, reverse, length, slice_range};
 ghost use Rattle.scheme_terms.specs.View.{scheme, scheme_part, parts_of};
 ghost use Rattle.scheme_terms.specs.SchemeTree.{con};
 ghost use Rattle.binding_terms.specs.Signature.{IsSingle};
@@ -111,6 +111,15 @@ fn is_nothing(found: &Firsts<Items<SArg>>) -> bool
     }
 }
 
+/// The tokens of the slot.
+fn tokens_of<'a, 'b>(tokens: &'a [Token<'b>], piece: Piece) -> &'a [Token<'b>]
+    requires start { piece.from ≤ piece.to }
+    requires end { piece.to ≤ length tokens.now }
+    ensures { result.now ≡ slice_range tokens.now piece.from piece.to }
+{
+    &tokens[piece.from..piece.to]
+}
+
 /// The readings of the slots together, where the last slot stands first and the last part is told first.
 #[cycle(terms)]
 fn parts(
@@ -130,13 +139,8 @@ fn parts(
         if is_nothing(&found) {
             return Ok(found);
         }
-        let bodies = terms(
-            alloc,
-            sig,
-            metas,
-            piece.cat,
-            &tokens[piece.from..piece.to],
-        )?;
+        let inner = tokens_of(tokens, *piece);
+        let bodies = terms(alloc, sig, metas, piece.cat, inner)?;
         found = extended(alloc, found, piece.binds, bodies)?;
     }
     Ok(found)
@@ -187,6 +191,7 @@ fn product(
     ensures { IfOk result
         (λ found. AreFirst (IsProduct sig.now metas.now p cat.0 (map token tokens.now)) (listed scheme found)) }
 {
+    sig.always_fits();
     let prod = &sig.prods()[p];
     if prod.cat.0 != cat.0 {
         return Ok(Firsts::Nothing);
