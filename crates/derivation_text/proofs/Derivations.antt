@@ -77,9 +77,9 @@ pub lines_done : (th : Theory) (root : Option ContextValue) (d : Derivation) (t 
     → v ≡ t ++ lines th root n d
 lines_done th root d t u v names n last number left none text all count own =
     let before : u ≡ t ++ all_lines th root n (subtrees_of (premises_of d)) =
-        sym (append-nil u) ∙ (ap (λ ds. u ++ all_lines th root last (subtrees_of ds)) (sym none) ∙ text) in
+    sym (append-nil u) ∙ (ap (λ ds. u ++ all_lines th root last (subtrees_of ds)) (sym none) ∙ text) in
     let named : names ≡ numbers n (subtrees_of (premises_of d)) =
-        sym (append-nil names) ∙ (ap (λ ds. names ++ numbers last (subtrees_of ds)) (sym none) ∙ all) in
+    sym (append-nil names) ∙ (ap (λ ds. names ++ numbers last (subtrees_of ds)) (sym none) ∙ all) in
     own
     ∙ ((λ k. before k ++ line th root ((count ∙ ap (λ m. n + m) (size_parts d)) k) (judgment d) (rule_of d) (named k))
     ∙ (append_assoc t _ _ ∙ ap (λ ls. t ++ ls) (sym (lines_parts th root n d))))

@@ -1,7 +1,7 @@
 -- Tokens written one after another.
-use Rattle.std.proofs.Common.{◌≡◌, ℕ, Bool, true, List, [], ◌∷◌, ◌++◌, if◌then◌else◌, refl, ap, sym, ◌∙◌, append_assoc}
+use Rattle.std.proofs.Common.{◌≡◌, ℕ, Bool, true, List, [], ◌∷◌, ◌++◌, refl, ap, sym, ◌∙◌, append_assoc}
 use Rattle.std.proofs.lemmas.List.{append-nil}
-use Rattle.rule_schemes.specs.Printing.{spaced, is_opening, is_closing, text_of}
+use Rattle.rule_schemes.specs.Printing.{spaced, is_opening, text_of}
 use Rattle.derivation_text.specs.Page.{joined_after, written}
 use Rattle.derivation_text.specs.declared.page.Page.{Page}
 

@@ -1,5 +1,5 @@
 -- The tests of sameness, and lists one step on.
-use Rattle.std.proofs.Common.{◌≡◌, ◌≢◌, ◌<◌, ◌↔◌, ℕ, suc, length, map, Bool, true, false, ◌&&◌, eqb, IsTrue, List, [], ◌∷◌, refl, ap, subst, sym, ◌∙◌, arith}
+use Rattle.std.proofs.Common.{◌≡◌, ◌≢◌, ◌<◌, ◌↔◌, ℕ, suc, length, map, Bool, true, false, ◌&&◌, eqb, IsTrue, List, [], ◌∷◌, refl, ap, subst, sym, arith}
 use Rattle.std.proofs.lemmas.Bool.Decides.{nat_tests}
 use Rattle.binding_terms.specs.Tree.{Tree, var, con, Args, no_args, arg}
 use Rattle.binding_terms.specs.View.{tree}

@@ -1,10 +1,9 @@
 -- Numbers of variables, and scopes as they grow.
-use Rattle.std.proofs.Common.{◌≡◌, ℕ, zero, suc, ◌+◌, ◌-◌, ◌<◌, ◌≤◌, max, ◌==◌, if◌then◌else◌, Bool, true, false, eqb, List, [], ◌∷◌, ◌++◌, map, reverse, length, take, drop, get_or, slice_index, slice_get, option_map, refl, ap, sym, ◌∙◌, arith, append_assoc}
-use Rattle.std.proofs.lemmas.List.{append-nil, map-append, reverse-append, take_more, take_all, get_or-reverse, length-reverse}
-use Rattle.std.proofs.lemmas.Bool.Decides.{nat_tests}
+use Rattle.std.proofs.Common.{◌≡◌, ℕ, zero, suc, ◌+◌, ◌-◌, ◌<◌, max, ◌==◌, if◌then◌else◌, Bool, true, false, List, [], ◌∷◌, ◌++◌, map, reverse, length, take, slice_index, slice_get, option_map, refl, ap, ◌∙◌, arith, append_assoc}
+use Rattle.std.proofs.lemmas.List.{map-append, reverse-append, take_more, get_or-reverse, length-reverse}
 use Rattle.derivation_text.specs.declared.words.Variable as words
 use Rattle.derivation_text.specs.View.{variable, variables}
-use Rattle.rule_schemes.specs.Printing.{Variable, greatest, next_variable, numbered, binder_at, bound_variables}
+use Rattle.rule_schemes.specs.Printing.{Variable, greatest, next_variable, numbered, binder_at}
 
 pub greatest_append : (c : ℕ) (xs ys : List Variable) → greatest c (xs ++ ys) ≡ max (greatest c xs) (greatest c ys)
 greatest_append c [] ys = omega arith

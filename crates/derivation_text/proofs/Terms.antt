@@ -73,9 +73,9 @@ pub binder_step : (sig : Signature) (vs : List printing.Variable) (bs : List wor
 binder_step sig vs bs items args i n item c h is same =
     ap (λ xs. items_tokens sig vs (variables bs) (variables (drop n bs)) xs args) (items_from items i item (Binder c) h is same)
     ∙ ap
-      (λ ws. take 1 (map (variable_word sig) (variables (drop n bs)))
-      ++ laid_out (drop (i + 1) items) ws (subterms sig no_labels vs (variables bs) (slots (drop (i + 1) items)) (plain_parts (args_tree args))))
-      (words_more sig bs n)
+    (λ ws. take 1 (map (variable_word sig) (variables (drop n bs)))
+    ++ laid_out (drop (i + 1) items) ws (subterms sig no_labels vs (variables bs) (slots (drop (i + 1) items)) (plain_parts (args_tree args))))
+    (words_more sig bs n)
 
 pub slot_step : (sig : Signature) (vs bs ws : List printing.Variable) (items : List Item) (args : List Arg) (i n : ℕ) (item : Item)
     (c : CatId) (binds : List ℕ) → i < length items → item ≡ get_or items i item → item ≡ Slot c binds
@@ -84,8 +84,8 @@ pub slot_step : (sig : Signature) (vs bs ws : List printing.Variable) (items : L
 slot_step sig vs bs ws items args i n item c binds h is same =
     ap (λ xs. items_tokens sig vs bs ws xs (drop n args)) (items_from items i item (Slot c binds) h is same)
     ∙ (λ k. first_subterm sig vs bs c.0 binds (slots (drop (i + 1) items)) (drop n args) k
-      ++ laid_out (drop (i + 1) items) (map (variable_word sig) ws)
-      (subterms_more sig vs bs (record { cat = c.0; binds = binds }) (slots (drop (i + 1) items)) args n k))
+    ++ laid_out (drop (i + 1) items) (map (variable_word sig) ws)
+    (subterms_more sig vs bs (record { cat = c.0; binds = binds }) (slots (drop (i + 1) items)) args n k))
 
 -- a slot of a judgment's form
 pub context_step : (ctx : Option CatId) (c : CatId) (binds : List ℕ) (items : List Item) (ts : List (List ℕ)) (xs : List (List (List ℕ)))

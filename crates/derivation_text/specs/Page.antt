@@ -1,5 +1,5 @@
 -- What a page holds after tokens were written on it.
-use Rattle.std.specs.Prelude.{ℕ, Bool, if◌then◌else◌, List, [], ◌∷◌, ◌++◌}
+use Rattle.std.specs.Prelude.{ℕ, Bool, List, [], ◌∷◌, ◌++◌}
 use Rattle.rule_schemes.specs.Printing.{spaced, is_opening}
 use Rattle.derivation_text.specs.declared.page.Page.{Page}
 

@@ -84,7 +84,14 @@ fn write_entry(
     let items = items_of(sig, entry.prod);
     let binders = numbered(page.alloc, scope, items)?;
     let args = entry.args.as_slice();
-    write_flat_items(page, sig, scope, binders.as_slice(), after_first(items), args)
+    write_flat_items(
+        page,
+        sig,
+        scope,
+        binders.as_slice(),
+        after_first(items),
+        args,
+    )
 }
 
 /// The scope after an entry.
@@ -238,12 +245,7 @@ pub fn write_context(
 }
 
 /// Writes a context where a root is given.
-fn write_from(
-    page: &mut Page,
-    sig: &Sig,
-    root: &CtxValue,
-    value: &CtxValue,
-) -> Result<(), NoMemory>
+fn write_from(page: &mut Page, sig: &Sig, root: &CtxValue, value: &CtxValue) -> Result<(), NoMemory>
     ensures { OnOk result (page.new ≡ written page.old
         (context_from sig.now (Some (context_value root.now)) (context_value value.now))) }
 {

@@ -32,11 +32,7 @@ fn greatest(cat: CatId, scope: &[Variable]) -> u64
 
 /// A further variable of the category after these binders, the last of them innermost.
 #[tactic(auto, using(crate::proofs::Scopes::greatest_outside))]
-fn next_variable(
-    cat: CatId,
-    scope: &[Variable],
-    binders: &[Variable],
-) -> Result<Variable, NoMemory>
+fn next_variable(cat: CatId, scope: &[Variable], binders: &[Variable]) -> Result<Variable, NoMemory>
     ensures { IfOk result (λ v. variable v ≡ next_variable cat.0 (reverse (variables binders.now) ++ variables scope.now)) }
 {
     let before = greatest(cat, scope).max(greatest(cat, binders));
@@ -96,11 +92,7 @@ fn variable_word(alloc: Global, sig: &Sig, named: &Variable) -> Result<Text, NoM
 }
 
 /// Writes a variable's word.
-pub fn write_variable(
-    page: &mut Page,
-    sig: &Sig,
-    named: &Variable,
-) -> Result<(), NoMemory>
+pub fn write_variable(page: &mut Page, sig: &Sig, named: &Variable) -> Result<(), NoMemory>
     ensures { OnOk result (page.new ≡ written page.old (variable_word sig.now (variable named.now) ∷ [])) }
 {
     let word = variable_word(page.alloc, sig, named)?;
@@ -124,11 +116,7 @@ pub fn write_local(
 }
 
 /// Writes a terminal as its production writes it.
-pub fn write_terminal(
-    page: &mut Page,
-    text: &Text,
-    quoted: bool,
-) -> Result<(), NoMemory>
+pub fn write_terminal(page: &mut Page, text: &Text, quoted: bool) -> Result<(), NoMemory>
     ensures { OnOk result (page.new ≡ written page.old (terminal text.now quoted ∷ [])) }
 {
     if !quoted {

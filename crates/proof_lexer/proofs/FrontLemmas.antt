@@ -19,10 +19,10 @@ RunEnds-more goes c after end passes ends = record {
   longest = (subst (λ l. goes c l ≡ true) ends.parts passes, ends.longest);
 }
 
-RunEnds-none : (goes : ℕ → List ℕ → Bool) → RunEnds goes [] []
+pub RunEnds-none : (goes : ℕ → List ℕ → Bool) → RunEnds goes [] []
 RunEnds-none goes = record { run = []; parts = refl; longest = tt }
 
-RunEnds-stop : (goes : ℕ → List ℕ → Bool) (c : ℕ) (rest : List ℕ) → goes c rest ≡ false → RunEnds goes (c ∷ rest) (c ∷ rest)
+pub RunEnds-stop : (goes : ℕ → List ℕ → Bool) (c : ℕ) (rest : List ℕ) → goes c rest ≡ false → RunEnds goes (c ∷ rest) (c ∷ rest)
 RunEnds-stop goes c rest stops = record { run = []; parts = refl; longest = stops }
 
 -- where a run ends, the whole ends with the rest

@@ -3,3 +3,5 @@ pub mod TextLemmas
 pub mod CursorLemmas
 pub mod LexLemmas
 pub mod LineLemmas
+pub mod UniqueLemmas
+pub mod TotalLemmas

@@ -5,12 +5,14 @@ mod characters;
 mod cursor;
 mod fault;
 mod front;
+mod laws;
 mod lexer;
 mod line;
 mod run;
 mod token;
 
 pub use fault::LexFault;
+pub use laws::{tokens_are_unique, tokens_or_fault};
 pub use lexer::lex;
 pub use line::source_line;
 pub use token::{Kind, Token};

@@ -1,4 +1,5 @@
 pub mod Categories
+pub mod Contexts
 pub mod Firsts
 pub mod Joining
 pub mod OnlyMatch

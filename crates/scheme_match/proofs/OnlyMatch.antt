@@ -120,3 +120,6 @@ module _ (m : Matching) (ok : IsMatching m) where
 
       pub one_matches : Agree ds → IsOnlyMatch m (Some (solution ds m.metas m.root))
       one_matches agree = (solution_matches agree, only_one)
+
+      pub one_matches_as : (inst : Instance) → inst ≡ solution ds m.metas m.root → Agree ds → IsOnlyMatch m (Some inst)
+      one_matches_as inst e agree = subst (λ i. IsOnlyMatch m (Some i)) (sym e) (one_matches agree)

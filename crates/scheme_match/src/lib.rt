@@ -1,6 +1,8 @@
 //! Patterns against ground terms.
 #![tactic(auto)]
 
+mod answer;
+mod context;
 mod demand;
 mod matcher;
 mod pair;

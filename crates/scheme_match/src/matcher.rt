@@ -5,6 +5,9 @@ ghost use Rattle.rule_schemes.specs.View.{judgment_scheme, judgment_value};
 ghost use Rattle.scheme_match.specs.Plain.{NothingBinds, HaveNoParameters};
 ghost use Rattle.scheme_match.specs.Matching.{Matched, judgments, terms, Matching, ArgumentsFit, TermsFit, AreStrict, IsOnlyMatch};
 
+use crate::answer::{agree, instance_for};
+use crate::context::all_heads_agree;
+use crate::demand::demands_of;
 use crate::pair::Pair;
 use binding_terms::{NoMemory, Sig, Term};
 use rule_schemes::{JScheme, JudgInst};
@@ -93,5 +96,24 @@ impl<'a> Matcher<'a> {
     {
         self.pairs.push(Pair::Terms(locals, pattern, target))?;
         Ok(())
+    }
+
+    /// The one ground instance over the root, with these places, that makes all pairs equal, or none where there is none.
+    pub fn finish(self) -> Result<Option<Inst>, NoMemory>
+        requires { AreStrict self }
+        ensures { IfOk result (λ answer. IsOnlyMatch self.entry (option_map instance answer)) }
+    {
+        if !all_heads_agree(self.root, self.pairs.as_slice()) {
+            return Ok(None);
+        }
+        let found = match demands_of(self.alloc, self.pairs.as_slice())? {
+            Some(found) => found,
+            None => return Ok(None),
+        };
+        if !agree(found.as_slice()) {
+            return Ok(None);
+        }
+        let inst = instance_for(self.alloc, found.as_slice(), self.metas, self.root)?;
+        Ok(Some(inst))
     }
 }

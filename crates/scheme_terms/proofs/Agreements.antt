@@ -1,5 +1,5 @@
 -- What is the same on the names of a scheme makes the same of it.
-use Rattle.std.proofs.Common.{◌≡◌, ◌⊎◌, ℕ, suc, ◌+◌, ◌-◌, List, [], ◌∷◌, length, inl, inr, refl, ap, ◌∙◌}
+use Rattle.std.proofs.Common.{◌≡◌, ℕ, suc, ◌+◌, ◌-◌, ◌∷◌, length, inl, inr, refl, ap, ◌∙◌}
 use Rattle.binding_terms.specs.Tree as terms
 use Rattle.binding_terms.specs.Tree.{Tree, var, Args}
 use Rattle.binding_terms.specs.Substitution as filling

@@ -1,5 +1,5 @@
 -- The instance of a scheme in which schemes were put in for its names.
-use Rattle.std.proofs.Common.{◌≡◌, ◌⊎◌, ℕ, zero, suc, ◌+◌, ◌-◌, ◌<◌, ◌≤◌, nat_lt, List, [], ◌∷◌, length, map, Option, Some, None, slice_get, unwrap_or, MatchOption, inl, inr, refl, ap, ◌∙◌, sym, if◌then◌else◌, arith}
+use Rattle.std.proofs.Common.{◌≡◌, ◌⊎◌, ℕ, suc, ◌+◌, ◌-◌, ◌<◌, ◌≤◌, nat_lt, List, ◌∷◌, length, map, Option, Some, None, slice_get, unwrap_or, MatchOption, inl, inr, refl, ap, ◌∙◌, sym, if◌then◌else◌, arith}
 use Rattle.std.proofs.lemmas.Bool.{cases_lt}
 use Rattle.std.proofs.lemmas.Bool.Decides.{nat_tests}
 use Rattle.std.proofs.lemmas.List.{length-map}
@@ -10,7 +10,7 @@ use Rattle.binding_terms.proofs.Substitutions.{filled_filled}
 use Rattle.binding_terms.proofs.Filling.{under_at, under_past}
 use Rattle.scheme_terms.specs.SchemeTree.{SchemeTree, meta, known, local, con, Values, no_values, value, Parts, no_parts, part, shifted, filled, filled_values, filled_parts, under, listed}
 use Rattle.scheme_terms.specs.Forms.{Instance}
-use Rattle.scheme_terms.specs.Instance.{instance_of, instances_of, parts_instance, argument_or_root, value_of, root_variable, place_of}
+use Rattle.scheme_terms.specs.Instance.{instance_of, instances_of, parts_instance, argument_or_root, value_of, place_of}
 use Rattle.scheme_terms.specs.Substituting.{scheme_for, known_for, argument_or_local, applied, applied_values, applied_parts, LocalsBelow, ValuesBelow, PartsBelow, Suits, SuitsValues, SuitsParts}
 use Rattle.scheme_terms.proofs.Arguments.{argument_past, argument_mapped}
 use Rattle.scheme_terms.proofs.RaisedInstances.{instance_shifted}

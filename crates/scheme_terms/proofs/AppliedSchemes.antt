@@ -1,5 +1,5 @@
 -- Schemes put in for names, one after another.
-use Rattle.std.proofs.Common.{◌≡◌, ◌⊎◌, ℕ, zero, suc, ◌+◌, ◌-◌, ◌<◌, ◌≤◌, nat_lt, List, [], ◌∷◌, length, map, reverse, subst, Option, Some, None, slice_get, unwrap_or, option_map, MatchOption, inl, inr, refl, ap, ◌∙◌, sym, if◌then◌else◌, arith}
+use Rattle.std.proofs.Common.{◌≡◌, ◌⊎◌, ℕ, zero, suc, ◌+◌, ◌-◌, ◌<◌, ◌≤◌, nat_lt, List, [], ◌∷◌, length, map, reverse, subst, Some, slice_get, unwrap_or, option_map, MatchOption, inl, inr, refl, ap, ◌∙◌, sym, if◌then◌else◌, arith}
 use Rattle.std.specs.List.{AllByRecursion}
 use Rattle.std.proofs.lemmas.Bool.{cases_lt}
 use Rattle.std.proofs.lemmas.Bool.Decides.{nat_tests}
@@ -23,10 +23,10 @@ module _ (ss : List SchemeTree) (ks : List ℕ) where
     pub applied_anywhere : (d e : ℕ) (s : SchemeTree) → Suits ss ks s → applied ss ks d s ≡ applied ss ks e s
     applied_anywhere d e (meta m vs) h =
         let within : (i : ℕ) → i < length (listed vs) → argument_or_local d (applied_values ss ks d vs) i ≡ argument_or_local e (applied_values ss ks e vs) i =
-            λ i low.
-            argument_at (local 0) (λ j. local (j + d)) (applied_values ss ks d vs) i (omega (arith, low, length_applied ss ks d vs))
-            ∙ ap (λ ts. unwrap_or (slice_get (reverse ts) i) (local 0)) (values_anywhere d e vs h.1)
-            ∙ sym (argument_at (local 0) (λ j. local (j + e)) (applied_values ss ks e vs) i (omega (arith, low, length_applied ss ks e vs))) in
+        λ i low.
+        argument_at (local 0) (λ j. local (j + d)) (applied_values ss ks d vs) i (omega (arith, low, length_applied ss ks d vs))
+        ∙ ap (λ ts. unwrap_or (slice_get (reverse ts) i) (local 0)) (values_anywhere d e vs h.1)
+        ∙ sym (argument_at (local 0) (λ j. local (j + e)) (applied_values ss ks e vs) i (omega (arith, low, length_applied ss ks e vs))) in
         filled_agree (length (listed vs)) (argument_or_local d (applied_values ss ks d vs)) (argument_or_local e (applied_values ss ks e vs)) within
         (scheme_for ss m) (value_below (length (listed vs)) (slice_get ss m) h.0)
     applied_anywhere d e (known k) h = refl

@@ -1,14 +1,13 @@
 -- Compositions of substitutions with each other and with instances, in scopes.
-use Rattle.std.proofs.Common.{◌≡◌, ℕ, zero, suc, ◌+◌, ◌≤◌, List, [], ◌∷◌, ◌++◌, length, map, drop, Option, Some, None, MatchOption, slice_get, unwrap_or, refl, ap, ◌∙◌, sym, subst}
+use Rattle.std.proofs.Common.{◌≡◌, ℕ, List, [], ◌∷◌, ◌++◌, length, map, drop, Some, None, slice_get, unwrap_or, refl, ap, ◌∙◌, sym, subst}
 use Rattle.std.specs.List.{AllByRecursion, AllZip}
-use Rattle.binding_terms.specs.Signature.{Signature, Place, slots, binders, Fits}
+use Rattle.binding_terms.specs.Signature.{Signature, Place, slots}
 use Rattle.binding_terms.specs.Scope.{IsTerm}
-use Rattle.binding_terms.specs.Tree as terms
 use Rattle.scheme_terms.specs.SchemeTree.{SchemeTree}
 use Rattle.scheme_terms.specs.Forms.{Names, Substitution, Instance, SchemeEntry, KnownVariable}
-use Rattle.scheme_terms.specs.Context.{scope_of, raised_args, IsValue}
+use Rattle.scheme_terms.specs.Context.{scope_of, IsValue}
 use Rattle.scheme_terms.specs.Instance.{instance_of, place_of, FitsScope, IsMetaValue, IsKnownPlace, IsEntryOf}
-use Rattle.scheme_terms.specs.SchemeScope.{IsScheme, AreSchemes, IsKnownEntry, KnownsFit, IsRoot, params_scope}
+use Rattle.scheme_terms.specs.SchemeScope.{IsScheme, AreSchemes, IsKnownEntry, IsRoot, params_scope}
 use Rattle.scheme_terms.specs.Substituting.{known_for, params, applied, composed, followed, followed_metas, Suits, applied_entry, IsKnownValue, IsSubstitution}
 use Rattle.scheme_terms.specs.Laws.{AppliedTwiceInScope, ComposedIsSubstitution, FollowedFits, InstanceRaised}
 use Rattle.scheme_terms.specs.declared.scheme.MetaDecl.{MetaDecl}
@@ -72,10 +71,11 @@ module _ (sig : Signature) (scope : Names) (first after : Substitution) (one : I
   composed_metas [] (s ∷ ss) h = absurd h
   composed_metas (d ∷ ds) [] h = absurd h
   composed_metas (d ∷ ds) (s ∷ ss) h =
-      let suits : Suits after.metas after.knowns s = scheme_suits sig first.into after two (params_scope d) d.cat.0 s h.0 in
-      (subst (IsScheme sig after.into (params_scope d) d.cat.0) (applied_anywhere after.metas after.knowns (length (params_scope d)) 0 s suits)
-           (applied_scheme sig first.into after two (params_scope d) d.cat.0 s h.0),
-       composed_metas ds ss h.1)
+      let suits : Suits after.metas after.knowns s = scheme_suits sig first.into after two (params_scope d) d.cat.0 s h.0 in (
+        subst (IsScheme sig after.into (params_scope d) d.cat.0) (applied_anywhere after.metas after.knowns (length (params_scope d)) 0 s suits)
+            (applied_scheme sig first.into after two (params_scope d) d.cat.0 s h.0),
+        composed_metas ds ss h.1,
+      )
 
   entry_twice : (e : SchemeEntry) → IsKnownEntry sig scope scope.root e → applied_entry after 0 (applied_entry first 0 e) ≡ applied_entry (composed first after) 0 e
   entry_twice e h =
@@ -92,11 +92,12 @@ module _ (sig : Signature) (scope : Names) (first after : Substitution) (one : I
   composed_knowns (d ∷ ds) (k ∷ ks) fits h =
       let other = match_some (slice_get first.into.knowns k) (λ o. o.entry ≡ applied_entry first 0 d.entry) h.0 in
       let stored = zip_at (IsKnownValue after) first.into.knowns after.knowns two.knowns k other.0 other.1 in
-      let third = match_some (slice_get after.into.knowns stored.0) (λ o. o.entry ≡ applied_entry after 0 other.0.entry) stored.2 in
-      (match_from (slice_get after.into.knowns (known_for after.knowns k)) (λ o. o.entry ≡ applied_entry (composed first after) 0 d.entry) third.0
-           (ap (λ o. slice_get after.into.knowns (unwrap_or o k)) stored.1 ∙ third.1)
-           (third.2 ∙ ap (applied_entry after 0) other.2 ∙ entry_twice d.entry fits.0),
-       composed_knowns ds ks fits.1 h.1)
+      let third = match_some (slice_get after.into.knowns stored.0) (λ o. o.entry ≡ applied_entry after 0 other.0.entry) stored.2 in (
+        match_from (slice_get after.into.knowns (known_for after.knowns k)) (λ o. o.entry ≡ applied_entry (composed first after) 0 d.entry) third.0
+            (ap (λ o. slice_get after.into.knowns (unwrap_or o k)) stored.1 ∙ third.1)
+            (third.2 ∙ ap (applied_entry after 0) other.2 ∙ entry_twice d.entry fits.0),
+        composed_knowns ds ks fits.1 h.1,
+      )
 
 pub applied_twice_in_scope : AppliedTwiceInScope
 applied_twice_in_scope sig scope first after ls c s one two h = twice sig scope first after one two ls c s h
@@ -117,7 +118,7 @@ module _ (sig : Signature) (scope : Names) (by : Substitution) (inst : Instance)
   metas_fit given root keeps (d ∷ ds) [] h = absurd h
   metas_fit given root keeps (d ∷ ds) (s ∷ ss) h =
       let kept : IsTerm sig (params_scope d ++ scope_of sig inst.root) d.cat.0 (instance_of inst (params d) s) =
-          subst (λ n. IsTerm sig (params_scope d ++ scope_of sig inst.root) d.cat.0 (instance_of inst n s)) (length_params d) (keeps (params_scope d) d.cat.0 s h.0) in
+      subst (λ n. IsTerm sig (params_scope d ++ scope_of sig inst.root) d.cat.0 (instance_of inst n s)) (length_params d) (keeps (params_scope d) d.cat.0 s h.0) in
       (subst (λ v. IsTerm sig (params_scope d ++ scope_of sig v) d.cat.0 (instance_of inst (params d) s)) (sym root) kept, metas_fit given root keeps ds ss h.1)
 
   entry_follows : (e : SchemeEntry) → IsKnownEntry sig scope scope.root e →
@@ -138,10 +139,11 @@ module _ (sig : Signature) (scope : Names) (by : Substitution) (inst : Instance)
       let place : place_of inst k ≡ unwrap_or stored.0 0 = ap (λ o. unwrap_or (unwrap_or o None) 0) stored.1 in
       let placed = match_some (slice_get inst.root.entries (unwrap_or stored.0 0)) (IsEntryOf inst (unwrap_or stored.0 0) other.0.entry) (place_some inst other.0 stored.0 stored.2) in
       let here : IsEntryOf (followed scope.metas by inst) (unwrap_or stored.0 0) d.entry placed.0 =
-          (placed.2.0 ∙ ap (λ e. e.prod) other.2, placed.2.1 ∙ ap (λ e. map (instance_of inst 0) e.args) other.2 ∙ entry_follows d.entry entries.0) in
-      (match_from (slice_get inst.root.entries (place_of inst k)) (IsEntryOf (followed scope.metas by inst) (place_of inst k) d.entry) placed.0
-           (ap (slice_get inst.root.entries) place ∙ placed.1) (subst (λ at. IsEntryOf (followed scope.metas by inst) at d.entry placed.0) (sym place) here),
-       knowns_fit ds ks entries.1 h.1)
+      (placed.2.0 ∙ ap (λ e. e.prod) other.2, placed.2.1 ∙ ap (λ e. map (instance_of inst 0) e.args) other.2 ∙ entry_follows d.entry entries.0) in (
+        match_from (slice_get inst.root.entries (place_of inst k)) (IsEntryOf (followed scope.metas by inst) (place_of inst k) d.entry) placed.0
+            (ap (slice_get inst.root.entries) place ∙ placed.1) (subst (λ at. IsEntryOf (followed scope.metas by inst) at d.entry placed.0) (sym place) here),
+        knowns_fit ds ks entries.1 h.1,
+      )
 
 pub followed_fits : FollowedFits
 followed_fits sig scope by inst fits root entries same is given = record {

@@ -1,6 +1,6 @@
 -- Distinct locals, one after another.
 use Rattle.std.proofs.Common.{◌↔◌, ℕ, zero, suc, ◌+◌, ◌<◌, List, [], ◌∷◌, length, drop, map, add-one, arith}
-use Rattle.scheme_terms.specs.SchemeTree.{SchemeTree, meta, known, local, con, Values, no_values, value, values, AreDistinctLocals, BeginsApart}
+use Rattle.scheme_terms.specs.SchemeTree.{SchemeTree, meta, known, local, con, Values, value, values, AreDistinctLocals, BeginsApart}
 use Rattle.scheme_terms.specs.View.{scheme}
 use Rattle.scheme_terms.specs.declared.scheme.Scheme.{Scheme}
 

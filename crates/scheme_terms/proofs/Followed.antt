@@ -1,12 +1,12 @@
 -- A substitution followed by an instance gives each name of a scheme what the instance makes of what is put in for it.
-use Rattle.std.proofs.Common.{◌≡◌, ℕ, zero, suc, ◌<◌, List, [], ◌∷◌, length, map, Option, Some, None, slice_get, unwrap_or, option_map, MatchOption, refl, ap, ◌∙◌, sym}
+use Rattle.std.proofs.Common.{◌≡◌, ℕ, zero, suc, ◌<◌, List, [], ◌∷◌, length, map, Some, None, slice_get, unwrap_or, option_map, MatchOption, refl, ap, ◌∙◌, sym}
 use Rattle.std.proofs.lemmas.Option.{slice_get-map, slice_get-get_or}
 use Rattle.std.proofs.Common.{get_or}
-use Rattle.binding_terms.specs.Tree.{Tree, var}
+use Rattle.binding_terms.specs.Tree.{var}
 use Rattle.scheme_terms.specs.SchemeTree.{SchemeTree, meta, known, local, con, Values, no_values, value, Parts, no_parts, part, listed}
 use Rattle.scheme_terms.specs.Forms.{Substitution, Instance}
 use Rattle.scheme_terms.specs.Instance.{instance_of, place_of}
-use Rattle.scheme_terms.specs.Substituting.{scheme_for, known_for, applied, params, followed_metas, followed, LocalsBelow, Suits, SuitsValues, SuitsParts, IsSaturated, AreSaturated, PartsAreSaturated}
+use Rattle.scheme_terms.specs.Substituting.{scheme_for, known_for, params, followed_metas, followed, LocalsBelow, Suits, SuitsValues, SuitsParts, IsSaturated, AreSaturated, PartsAreSaturated}
 use Rattle.scheme_terms.specs.Laws.{InstanceOfApplied, InstanceOfAppliedScheme}
 use Rattle.scheme_terms.specs.declared.scheme.MetaDecl.{MetaDecl}
 use Rattle.scheme_terms.proofs.SchemeFacts.{scheme_saturated, scheme_suits}

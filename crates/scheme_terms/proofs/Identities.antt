@@ -1,18 +1,18 @@
 -- The identity changes nothing.
-use Rattle.std.proofs.Common.{◌≡◌, ◌⊎◌, ℕ, zero, suc, ◌+◌, ◌-◌, ◌<◌, ◌≤◌, List, [], ◌∷◌, ◌++◌, length, map, reverse, get_or, Option, Some, None, MatchOption, slice_get, unwrap_or, inl, inr, refl, ap, ◌∙◌, sym, subst, arith}
+use Rattle.std.proofs.Common.{◌≡◌, ℕ, zero, suc, ◌+◌, ◌-◌, ◌<◌, List, [], ◌∷◌, length, map, reverse, get_or, Some, slice_get, unwrap_or, refl, ap, ◌∙◌, sym, subst, arith}
 use Rattle.std.specs.List.{AllByRecursion, AllZip}
 use Rattle.std.proofs.lemmas.List.{length-map, length-reverse, get_or-reverse}
 use Rattle.std.proofs.lemmas.Option.{unwrap_or-slice_get, slice_get-get_or}
 use Rattle.binding_terms.specs.Signature.{Signature}
 use Rattle.scheme_terms.specs.SchemeTree.{SchemeTree, meta, known, local, con, Values, no_values, value, values, Parts, no_parts, part, filled, filled_values, listed}
-use Rattle.scheme_terms.specs.Forms.{Names, Substitution, SchemeEntry, KnownVariable}
+use Rattle.scheme_terms.specs.Forms.{Names, SchemeEntry, KnownVariable}
 use Rattle.scheme_terms.specs.SchemeScope.{IsScheme, AreValues, IsKnownEntry, KnownsFit, params_scope}
-use Rattle.scheme_terms.specs.Substituting.{scheme_for, known_for, params, argument_or_local, applied, applied_values, applied_parts, parameters, metas_from, knowns_from, identity, IsSaturated, AreSaturated, PartsAreSaturated, IsSubstitution, IsKnownValue, applied_entry}
+use Rattle.scheme_terms.specs.Substituting.{scheme_for, known_for, params, argument_or_local, applied, applied_values, applied_parts, parameters, metas_from, knowns_from, identity, IsSaturated, AreSaturated, PartsAreSaturated, IsKnownValue, applied_entry}
 use Rattle.scheme_terms.specs.Laws.{IdentityChangesNothing, IdentityKeepsSchemes, IdentityIsSubstitution}
 use Rattle.scheme_terms.specs.declared.scheme.MetaDecl.{MetaDecl}
 use Rattle.scheme_terms.proofs.Options.{match_some, match_from}
 use Rattle.scheme_terms.proofs.Arguments.{argument_at}
-use Rattle.scheme_terms.proofs.SchemeFacts.{length_params, scheme_saturated}
+use Rattle.scheme_terms.proofs.SchemeFacts.{scheme_saturated}
 use Rattle.scheme_terms.proofs.Compositions.{same_arguments, entry_with}
 
 -- the parameters with schemes put in for them, from the outermost
@@ -63,9 +63,9 @@ module _ (scope : Names) where
     stays d (meta m vs) h =
         let found = match_some (slice_get scope.metas m) (λ decl. length (listed vs) ≡ params decl) h.0 in
         let itself : scheme_for (metas_from 0 scope.metas) m ≡ meta m (values (parameters (length (listed vs)))) =
-            ap (λ o. unwrap_or o (local 0)) (meta_itself scope.metas 0 m found.0 found.1)
-            ∙ ap (λ k. meta k (values (parameters (params found.0)))) (let e : 0 + m ≡ m = omega arith in e)
-            ∙ ap (λ n. meta m (values (parameters n))) (sym found.2) in
+        ap (λ o. unwrap_or o (local 0)) (meta_itself scope.metas 0 m found.0 found.1)
+        ∙ ap (λ k. meta k (values (parameters (params found.0)))) (let e : 0 + m ≡ m = omega arith in e)
+        ∙ ap (λ n. meta m (values (parameters n))) (sym found.2) in
         ap (λ ts. filled (argument_or_local d ts) (scheme_for (metas_from 0 scope.metas) m)) (values_stay d vs h.1)
         ∙ ap (filled (argument_or_local d (listed vs))) itself
         ∙ ap (meta m) (read_back (argument_or_local d (listed vs)) (listed vs) (λ i below. argument_is d (listed vs) i below) ∙ values_listed vs)
@@ -97,9 +97,10 @@ map_itself (s ∷ ss) = ap (λ ts. s ∷ ts) (map_itself ss)
 parameters_are : (sig : Signature) (scope : Names) (ls cs : List ℕ) → ((i : ℕ) → i < length cs → slice_get ls (length cs - 1 - i) ≡ Some (get_or cs i 0)) →
     AreValues sig scope ls cs (values (parameters (length cs)))
 parameters_are sig scope ls [] h = tt
-parameters_are sig scope ls (c ∷ cs) h =
-    (ap (slice_get ls) (let e : length cs ≡ suc (length cs) - 1 - 0 = omega arith in e) ∙ h 0 (omega arith),
-     parameters_are sig scope ls cs (λ i below. ap (slice_get ls) (let e : length cs - 1 - i ≡ suc (length cs) - 1 - suc i = omega arith in e) ∙ h (suc i) (omega arith)))
+parameters_are sig scope ls (c ∷ cs) h = (
+  ap (slice_get ls) (let e : length cs ≡ suc (length cs) - 1 - 0 = omega arith in e) ∙ h 0 (omega arith),
+  parameters_are sig scope ls cs (λ i below. ap (slice_get ls) (let e : length cs - 1 - i ≡ suc (length cs) - 1 - suc i = omega arith in e) ∙ h (suc i) (omega arith)),
+)
 
 reversed_at : (cs : List ℕ) (i : ℕ) → i < length cs → slice_get (reverse cs) (length cs - 1 - i) ≡ Some (get_or cs i 0)
 reversed_at cs i below =
@@ -112,16 +113,17 @@ module _ (sig : Signature) (scope : Names) (fits : KnownsFit sig scope) where
   meta_is decl m e =
       let long : length (map (λ p. p.0) decl.params) ≡ params decl = length-map decl.params (λ p. p.0) in
       let each : AreValues sig scope (params_scope decl) (map (λ p. p.0) decl.params) (values (parameters (length (map (λ p. p.0) decl.params)))) =
-          parameters_are sig scope (params_scope decl) (map (λ p. p.0) decl.params) (λ i below. reversed_at (map (λ p. p.0) decl.params) i below) in
+      parameters_are sig scope (params_scope decl) (map (λ p. p.0) decl.params) (λ i below. reversed_at (map (λ p. p.0) decl.params) i below) in
       match_from (slice_get scope.metas m) (λ d. (d.cat.0 ≡ decl.cat.0) × AreValues sig scope (params_scope decl) (map (λ p. p.0) d.params) (values (parameters (params decl))))
       decl e (refl, subst (λ n. AreValues sig scope (params_scope decl) (map (λ p. p.0) decl.params) (values (parameters n))) long each)
 
   metas_are : (decls : List MetaDecl) (first : ℕ) → ((m : ℕ) (decl : MetaDecl) → slice_get decls m ≡ Some decl → slice_get scope.metas (first + m) ≡ Some decl) →
       AllZip (λ d s. IsScheme sig scope (params_scope d) d.cat.0 s) decls (metas_from first decls)
   metas_are [] first h = tt
-  metas_are (decl ∷ decls) first h =
-      (meta_is decl first (ap (slice_get scope.metas) (let e : first ≡ first + 0 = omega arith in e) ∙ h 0 decl refl),
-       metas_are decls (suc first) (λ m d e. ap (slice_get scope.metas) (let k : suc first + m ≡ first + suc m = omega arith in k) ∙ h (suc m) d e))
+  metas_are (decl ∷ decls) first h = (
+    meta_is decl first (ap (slice_get scope.metas) (let e : first ≡ first + 0 = omega arith in e) ∙ h 0 decl refl),
+    metas_are decls (suc first) (λ m d e. ap (slice_get scope.metas) (let k : suc first + m ≡ first + suc m = omega arith in k) ∙ h (suc m) d e),
+  )
 
   entry_stays : (e : SchemeEntry) → IsKnownEntry sig scope scope.root e → e ≡ applied_entry (identity scope) 0 e
   entry_stays e h =
@@ -132,10 +134,11 @@ module _ (sig : Signature) (scope : Names) (fits : KnownsFit sig scope) where
   knowns_are : (decls : List KnownVariable) (first : ℕ) → ((k : ℕ) (decl : KnownVariable) → slice_get decls k ≡ Some decl → slice_get scope.knowns (first + k) ≡ Some decl) →
       AllByRecursion (λ d. IsKnownEntry sig scope scope.root d.entry) decls → AllZip (IsKnownValue (identity scope)) decls (knowns_from first decls)
   knowns_are [] first h entries = tt
-  knowns_are (decl ∷ decls) first h entries =
-      (match_from (slice_get scope.knowns first) (λ o. o.entry ≡ applied_entry (identity scope) 0 decl.entry) decl
-           (ap (slice_get scope.knowns) (let e : first ≡ first + 0 = omega arith in e) ∙ h 0 decl refl) (entry_stays decl.entry entries.0),
-       knowns_are decls (suc first) (λ k d e. ap (slice_get scope.knowns) (let n : suc first + k ≡ first + suc k = omega arith in n) ∙ h (suc k) d e) entries.1)
+  knowns_are (decl ∷ decls) first h entries = (
+    match_from (slice_get scope.knowns first) (λ o. o.entry ≡ applied_entry (identity scope) 0 decl.entry) decl
+        (ap (slice_get scope.knowns) (let e : first ≡ first + 0 = omega arith in e) ∙ h 0 decl refl) (entry_stays decl.entry entries.0),
+    knowns_are decls (suc first) (λ k d e. ap (slice_get scope.knowns) (let n : suc first + k ≡ first + suc k = omega arith in n) ∙ h (suc k) d e) entries.1,
+  )
 
 pub identity_is_substitution : IdentityIsSubstitution
 identity_is_substitution sig scope fits = record {

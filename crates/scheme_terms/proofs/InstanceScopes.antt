@@ -1,27 +1,26 @@
 -- The instance of a scheme of a category is a term of the category.
-use Rattle.std.proofs.Common.{◌≡◌, ◌⊎◌, ℕ, zero, suc, ◌+◌, ◌-◌, ◌<◌, ◌≤◌, List, [], ◌∷◌, ◌++◌, length, map, reverse, Option, Some, None, MatchOption, slice_get, unwrap_or, inl, inr, refl, ap, ◌∙◌, sym, subst, append_assoc, length-append, arith}
+use Rattle.std.proofs.Common.{◌≡◌, ◌⊎◌, ℕ, suc, ◌+◌, ◌-◌, ◌<◌, ◌≤◌, List, [], ◌∷◌, ◌++◌, length, map, reverse, Option, Some, None, MatchOption, slice_get, unwrap_or, inl, inr, ap, ◌∙◌, sym, subst, append_assoc, length-append, arith}
 use Rattle.std.specs.List.{AllZip}
 use Rattle.std.proofs.lemmas.Bool.{cases_lt}
-use Rattle.std.proofs.lemmas.List.{length-map, length-reverse}
+use Rattle.std.proofs.lemmas.List.{length-reverse}
 use Rattle.std.proofs.lemmas.Option.{slice_get_within}
 use Rattle.std.proofs.lemmas.Slice.Zip.{AllZip-long}
-use Rattle.binding_terms.specs.Tree as terms
 use Rattle.binding_terms.specs.Tree.{Tree, var}
 use Rattle.binding_terms.specs.Substitution as filling
 use Rattle.binding_terms.specs.Signature.{Signature, Place, slots, binders, Fits}
-use Rattle.binding_terms.specs.Scope.{bound, IsTerm, AreParts}
+use Rattle.binding_terms.specs.Scope.{bound, IsTerm, AreParts, Fills}
 use Rattle.binding_terms.proofs.Frames.{append_within, append_beyond}
-use Rattle.scheme_terms.specs.SchemeTree.{SchemeTree, meta, known, local, con, Values, no_values, value, Parts, no_parts, part, listed}
+use Rattle.scheme_terms.specs.SchemeTree.{SchemeTree, meta, known, local, con, Values, no_values, value, Parts, no_parts, part}
 use Rattle.scheme_terms.specs.Forms.{Names, Instance, KnownVariable}
 use Rattle.scheme_terms.specs.Context.{scope_of, variables}
-use Rattle.scheme_terms.specs.Instance.{instance_of, instances_of, parts_instance, argument_or_root, value_of, place_of, FitsScope, IsMetaValue, IsKnownPlace, IsEntryOf}
+use Rattle.scheme_terms.specs.Instance.{instance_of, instances_of, parts_instance, argument_or_root, place_of, FitsScope, IsMetaValue, IsKnownPlace, IsEntryOf}
 use Rattle.scheme_terms.specs.SchemeScope.{IsScheme, AreValues, AreSchemeParts, IsRoot, params_scope}
 use Rattle.scheme_terms.specs.Laws.{InstanceKeepsScope, InstanceKeepsScopeOfMetas}
 use Rattle.scheme_terms.specs.declared.scheme.MetaDecl.{MetaDecl}
 use Rattle.scheme_terms.proofs.Options.{match_some, match_from, zip_at, zip_reverse}
 use Rattle.scheme_terms.proofs.Arguments.{argument_at, argument_past}
-use Rattle.scheme_terms.proofs.SchemeFacts.{length_params, length_bound}
-use Rattle.scheme_terms.proofs.TermScopes.{Fills, IsTerm-filled}
+use Rattle.scheme_terms.proofs.SchemeFacts.{length_bound}
+use Rattle.binding_terms.proofs.Scopes.{IsTerm-filled}
 use Rattle.scheme_terms.proofs.Values.{value_adds_one, entry_variable}
 
 some_value : (P : Tree → Type 0) (o : Option Tree) → MatchOption o ⊥ P → P (unwrap_or o (var 0))
@@ -42,6 +41,7 @@ module _ (sig : Signature) (names : Names) (inst : Instance) (metas : AllZip (Is
     where
       long : length args ≡ length cs
       long = AllZip-long (λ c t. IsTerm sig (ls ++ scope_of sig inst.root) c t) cs args h
+
       at : (i < length args) ⊎ (length args ≤ i) → IsTerm sig (ls ++ scope_of sig inst.root) c (argument_or_root (length ls) args i)
       at (inl below) =
           let within : i < length (reverse cs) = rw length-reverse (let k : i < length cs = omega (arith, long) in k) in
@@ -53,7 +53,7 @@ module _ (sig : Signature) (names : Names) (inst : Instance) (metas : AllZip (Is
           let past : length (reverse cs) ≤ i = rw length-reverse (let k : length cs ≤ i = omega (arith, long) in k) in
           let index : i - length (reverse cs) ≡ i - length args = rw length-reverse (let k : i - length cs ≡ i - length args = omega (arith, long) in k) in
           let there : slice_get (scope_of sig inst.root) (i - length args) ≡ Some c =
-              ap (slice_get (scope_of sig inst.root)) (sym index) ∙ sym (append_beyond (reverse cs) (scope_of sig inst.root) i past) ∙ is in
+          ap (slice_get (scope_of sig inst.root)) (sym index) ∙ sym (append_beyond (reverse cs) (scope_of sig inst.root) i past) ∙ is in
           subst (IsTerm sig (ls ++ scope_of sig inst.root) c) (sym (argument_past (var 0) (λ j. var (j + length ls)) args i beyond))
           (append_beyond ls (scope_of sig inst.root) (i - length args + length ls) (omega arith)
           ∙ ap (slice_get (scope_of sig inst.root)) (let k : i - length args + length ls - length ls ≡ i - length args = omega arith in k) ∙ there)
@@ -65,11 +65,11 @@ module _ (sig : Signature) (names : Names) (inst : Instance) (metas : AllZip (Is
         let decl : MetaDecl = found.0 in
         let stored = zip_at (IsMetaValue sig inst) names.metas inst.metas metas m decl found.1 in
         let kept : IsTerm sig (params_scope decl ++ scope_of sig inst.root) decl.cat.0 (unwrap_or stored.0 (var 0)) =
-            some_value (IsTerm sig (params_scope decl ++ scope_of sig inst.root) decl.cat.0) stored.0 stored.2 in
+        some_value (IsTerm sig (params_scope decl ++ scope_of sig inst.root) decl.cat.0) stored.0 stored.2 in
         let fills = arguments_fill ls (map (λ p. p.0) decl.params) (instances_of inst (length ls) vs) (instance_terms ls (map (λ p. p.0) decl.params) vs found.2.1) in
         let filled : IsTerm sig (ls ++ scope_of sig inst.root) decl.cat.0 (filling.filled (argument_or_root (length ls) (instances_of inst (length ls) vs)) (unwrap_or stored.0 (var 0))) =
-            IsTerm-filled sig (params_scope decl ++ scope_of sig inst.root) (ls ++ scope_of sig inst.root)
-            (argument_or_root (length ls) (instances_of inst (length ls) vs)) fills decl.cat.0 (unwrap_or stored.0 (var 0)) kept in
+        IsTerm-filled sig (params_scope decl ++ scope_of sig inst.root) (ls ++ scope_of sig inst.root)
+        (argument_or_root (length ls) (instances_of inst (length ls) vs)) fills decl.cat.0 (unwrap_or stored.0 (var 0)) kept in
         subst (λ o. IsTerm sig (ls ++ scope_of sig inst.root) c (filling.filled (argument_or_root (length ls) (instances_of inst (length ls) vs)) (unwrap_or (unwrap_or o None) (var 0))))
         (sym stored.1)
         (subst (λ d. IsTerm sig (ls ++ scope_of sig inst.root) d (filling.filled (argument_or_root (length ls) (instances_of inst (length ls) vs)) (unwrap_or stored.0 (var 0)))) found.2.0 filled)
@@ -98,11 +98,12 @@ module _ (sig : Signature) (names : Names) (inst : Instance) (metas : AllZip (Is
     instance_parts ls bs (at ∷ ss) (part n s xs) h =
         let own : List ℕ = bound bs at.binds in
         let deep : length (own ++ ls) ≡ length ls + n = omega (arith, length-append own ls, length_bound bs at.binds, h.0) in
-        let body : IsTerm sig ((own ++ ls) ++ scope_of sig inst.root) at.cat (instance_of inst (length (own ++ ls)) s) = instance_term (own ++ ls) at.cat s h.1 in
-        (h.0,
-         subst (λ sc. IsTerm sig sc at.cat (instance_of inst (length ls + n) s)) (append_assoc own ls (scope_of sig inst.root))
-             (subst (λ d. IsTerm sig ((own ++ ls) ++ scope_of sig inst.root) at.cat (instance_of inst d s)) deep body),
-         instance_parts ls bs ss xs h.2)
+        let body : IsTerm sig ((own ++ ls) ++ scope_of sig inst.root) at.cat (instance_of inst (length (own ++ ls)) s) = instance_term (own ++ ls) at.cat s h.1 in (
+          h.0,
+          subst (λ sc. IsTerm sig sc at.cat (instance_of inst (length ls + n) s)) (append_assoc own ls (scope_of sig inst.root))
+              (subst (λ d. IsTerm sig ((own ++ ls) ++ scope_of sig inst.root) at.cat (instance_of inst d s)) deep body),
+          instance_parts ls bs ss xs h.2,
+        )
 
 pub place_some : (inst : Instance) (decl : KnownVariable) (o : Option ℕ) → IsKnownPlace inst decl o →
     MatchOption (slice_get inst.root.entries (unwrap_or o 0)) ⊥ (IsEntryOf inst (unwrap_or o 0) decl.entry)

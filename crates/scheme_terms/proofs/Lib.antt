@@ -8,6 +8,7 @@ pub mod Followed
 pub mod Identities
 pub mod InstanceScopes
 pub mod Lists
+pub mod Named
 pub mod Options
 pub mod Parts
 pub mod RaisedInstances
@@ -16,5 +17,4 @@ pub mod SchemeFilling
 pub mod SchemeScopes
 pub mod SchemeSubstitutions
 pub mod StrictAgreements
-pub mod TermScopes
 pub mod Values

@@ -1,6 +1,5 @@
 -- What holds of each scheme of a category in a scope.
-use Rattle.std.proofs.Common.{◌≡◌, ℕ, suc, ◌+◌, ◌<◌, List, [], ◌∷◌, ◌++◌, length, map, Some, slice_get, slice_index, refl, ap, ◌∙◌, sym, subst, length-append, arith}
-use Rattle.std.specs.List.{AllZip}
+use Rattle.std.proofs.Common.{◌≡◌, ℕ, suc, ◌+◌, ◌<◌, List, [], ◌∷◌, ◌++◌, length, map, slice_get, slice_index, refl, ap, ◌∙◌, sym, subst, length-append, arith}
 use Rattle.std.proofs.lemmas.List.{length-map, length-reverse}
 use Rattle.std.proofs.lemmas.Option.{slice_get_within}
 use Rattle.std.proofs.lemmas.Slice.Zip.{AllZip-long}
@@ -88,7 +87,7 @@ module _ (sig : Signature) (names : Names) (by : Substitution) (is : IsSubstitut
         let decl : MetaDecl = found.0 in
         let put = zip_at (λ d s. IsScheme sig by.into (params_scope d) d.cat.0 s) names.metas by.metas is.metas m decl found.1 in
         let long : length (params_scope decl) ≡ length (listed vs) =
-            length_params decl ∙ sym (length_values sig names ls (map (λ p. p.0) decl.params) vs found.2.1 ∙ length-map decl.params (λ p. p.0)) in
+        length_params decl ∙ sym (length_values sig names ls (map (λ p. p.0) decl.params) vs found.2.1 ∙ length-map decl.params (λ p. p.0)) in
         let below : LocalsBelow (length (listed vs)) put.0 = subst (λ d. LocalsBelow d put.0) long (scheme_below sig by.into (params_scope decl) decl.cat.0 put.0 put.2) in
         (match_from (slice_get by.metas m) (LocalsBelow (length (listed vs))) put.0 put.1 below, values_suit ls (map (λ p. p.0) decl.params) vs found.2.1)
     scheme_suits ls c (known k) h =

@@ -1,20 +1,20 @@
 -- Raising, and schemes that are put in, keep the category and the scope of a scheme.
-use Rattle.std.proofs.Common.{◌≡◌, ◌⊎◌, ℕ, ◌+◌, ◌-◌, ◌<◌, ◌≤◌, List, [], ◌∷◌, ◌++◌, length, map, reverse, Option, Some, None, MatchOption, slice_get, unwrap_or, inl, inr, refl, ap, ◌∙◌, sym, subst, append_assoc, length-append, arith}
+use Rattle.std.proofs.Common.{◌≡◌, ◌⊎◌, ℕ, ◌+◌, ◌-◌, ◌<◌, ◌≤◌, List, [], ◌∷◌, ◌++◌, length, map, reverse, Some, slice_get, unwrap_or, inl, inr, ap, ◌∙◌, sym, subst, append_assoc, length-append, arith}
 use Rattle.std.specs.List.{AllZip}
 use Rattle.std.proofs.lemmas.Bool.{cases_lt}
-use Rattle.std.proofs.lemmas.List.{length-map, length-reverse}
+use Rattle.std.proofs.lemmas.List.{length-reverse}
 use Rattle.std.proofs.lemmas.Option.{slice_get_within}
 use Rattle.std.proofs.lemmas.Slice.Zip.{AllZip-long}
 use Rattle.binding_terms.specs.Tree.{var}
 use Rattle.binding_terms.specs.Signature.{Signature, Place, slots, binders}
 use Rattle.binding_terms.specs.Scope.{bound}
 use Rattle.binding_terms.proofs.Frames.{append_within, append_beyond}
-use Rattle.binding_terms.proofs.Scopes.{shifted_term}
-use Rattle.scheme_terms.specs.SchemeTree.{SchemeTree, meta, known, local, con, Values, no_values, value, Parts, no_parts, part, shifted, shifted_values, shifted_parts, under, filled, filled_values, filled_parts, listed}
-use Rattle.scheme_terms.specs.Forms.{Names, Substitution, KnownVariable}
+use Rattle.binding_terms.proofs.Scopes.{IsTerm-shift}
+use Rattle.scheme_terms.specs.SchemeTree.{SchemeTree, meta, known, local, con, Values, no_values, value, Parts, no_parts, part, shifted, shifted_values, shifted_parts, under, filled, filled_values, filled_parts}
+use Rattle.scheme_terms.specs.Forms.{Names, Substitution}
 use Rattle.scheme_terms.specs.Context.{variables}
 use Rattle.scheme_terms.specs.SchemeScope.{IsScheme, AreValues, AreSchemeParts, params_scope}
-use Rattle.scheme_terms.specs.Substituting.{scheme_for, known_for, argument_or_local, applied, applied_values, applied_parts, IsSubstitution, IsKnownValue, applied_entry}
+use Rattle.scheme_terms.specs.Substituting.{known_for, argument_or_local, applied, applied_values, applied_parts, IsSubstitution, IsKnownValue, applied_entry}
 use Rattle.scheme_terms.specs.Laws.{ShiftKeepsScheme, ApplyKeepsScope}
 use Rattle.scheme_terms.specs.declared.scheme.MetaDecl.{MetaDecl}
 use Rattle.scheme_terms.proofs.Options.{match_some, match_from, zip_at, zip_reverse}
@@ -32,7 +32,7 @@ module _ (sig : Signature) (names : Names) (new outer : List ℕ) where
         (λ decl. (decl.cat.0 ≡ c) × AreValues sig names (inner ++ (new ++ outer)) (map (λ p. p.0) decl.params) (shifted_values (length inner) (length new) vs))
         found.0 found.1 (found.2.0, shifted_are_values inner (map (λ p. p.0) found.0.params) vs found.2.1)
     shifted_scheme inner c (known k) h = h
-    shifted_scheme inner c (local i) h = shifted_term sig new outer inner c (var i) h
+    shifted_scheme inner c (local i) h = IsTerm-shift sig new outer inner c (var i) h
     shifted_scheme inner c (con p xs) h =
         let found = match_some (slice_get sig.prods p) (λ prod. (prod.cat.0 ≡ c) × AreSchemeParts sig names (inner ++ outer) (binders prod.items) (slots prod.items) xs) h in
         match_from (slice_get sig.prods p)
@@ -55,11 +55,12 @@ module _ (sig : Signature) (names : Names) (new outer : List ℕ) where
         let own : List ℕ = bound bs at.binds in
         let deep : length (own ++ inner) ≡ length inner + n = omega (arith, length-append own inner, length_bound bs at.binds, h.0) in
         let body : IsScheme sig names ((own ++ inner) ++ outer) at.cat s = subst (λ ls. IsScheme sig names ls at.cat s) (sym (append_assoc own inner outer)) h.1 in
-        let raised_body : IsScheme sig names ((own ++ inner) ++ (new ++ outer)) at.cat (shifted (length (own ++ inner)) (length new) s) = shifted_scheme (own ++ inner) at.cat s body in
-        (h.0,
-         subst (λ ls. IsScheme sig names ls at.cat (shifted (length inner + n) (length new) s)) (append_assoc own inner (new ++ outer))
-             (subst (λ d. IsScheme sig names ((own ++ inner) ++ (new ++ outer)) at.cat (shifted d (length new) s)) deep raised_body),
-         shifted_are_parts inner bs ss xs h.2)
+        let raised_body : IsScheme sig names ((own ++ inner) ++ (new ++ outer)) at.cat (shifted (length (own ++ inner)) (length new) s) = shifted_scheme (own ++ inner) at.cat s body in (
+          h.0,
+          subst (λ ls. IsScheme sig names ls at.cat (shifted (length inner + n) (length new) s)) (append_assoc own inner (new ++ outer))
+              (subst (λ d. IsScheme sig names ((own ++ inner) ++ (new ++ outer)) at.cat (shifted d (length new) s)) deep raised_body),
+          shifted_are_parts inner bs ss xs h.2,
+        )
 
 -- schemes of the locals' categories are put in for them
 abbrev pub FillsLocals : Signature → Names → (from to : List ℕ) → (ℕ → SchemeTree) → Type 0
@@ -107,7 +108,7 @@ module _ (sig : Signature) (names : Names) where
         let own : List ℕ = bound bs at.binds in
         let deep : length own ≡ n = length_bound bs at.binds ∙ sym h.0 in
         let body : IsScheme sig names (own ++ to) at.cat (filled (under (length own) f) s) =
-            filled_scheme (own ++ from) (own ++ to) (under (length own) f) (fills_under sig names own from to f fills) at.cat s h.1 in
+        filled_scheme (own ++ from) (own ++ to) (under (length own) f) (fills_under sig names own from to f fills) at.cat s h.1 in
         (h.0, subst (λ d. IsScheme sig names (own ++ to) at.cat (filled (under d f) s)) deep body, filled_are_parts from to f fills bs ss xs h.2)
 
 arguments_fill : (sig : Signature) (names : Names) (ls cs : List ℕ) (args : List SchemeTree) → AllZip (λ c s. IsScheme sig names ls c s) cs args →
@@ -127,9 +128,9 @@ module _ (sig : Signature) (names : Names) (by : Substitution) (is : IsSubstitut
         let decl : MetaDecl = found.0 in
         let stored = zip_at (λ d s. IsScheme sig by.into (params_scope d) d.cat.0 s) names.metas by.metas is.metas m decl found.1 in
         let fills = arguments_fill sig by.into ls (map (λ p. p.0) decl.params) (applied_values by.metas by.knowns (length ls) vs)
-            (applied_are_values ls (map (λ p. p.0) decl.params) vs found.2.1) in
+        (applied_are_values ls (map (λ p. p.0) decl.params) vs found.2.1) in
         let put : IsScheme sig by.into ls decl.cat.0 (filled (argument_or_local (length ls) (applied_values by.metas by.knowns (length ls) vs)) stored.0) =
-            filled_scheme sig by.into (params_scope decl) ls (argument_or_local (length ls) (applied_values by.metas by.knowns (length ls) vs)) fills decl.cat.0 stored.0 stored.2 in
+        filled_scheme sig by.into (params_scope decl) ls (argument_or_local (length ls) (applied_values by.metas by.knowns (length ls) vs)) fills decl.cat.0 stored.0 stored.2 in
         subst (λ o. IsScheme sig by.into ls c (filled (argument_or_local (length ls) (applied_values by.metas by.knowns (length ls) vs)) (unwrap_or o (local 0)))) (sym stored.1)
         (subst (λ d. IsScheme sig by.into ls d (filled (argument_or_local (length ls) (applied_values by.metas by.knowns (length ls) vs)) stored.0)) found.2.0 put)
     applied_scheme ls c (known k) h =

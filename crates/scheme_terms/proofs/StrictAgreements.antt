@@ -1,14 +1,13 @@
 -- Two instances that give a scheme the same instance agree on each metavariable with a strict occurrence in it.
-use Rattle.std.proofs.Common.{◌≡◌, ◌≢◌, ◌⊎◌, ℕ, zero, suc, ◌+◌, ◌-◌, ◌<◌, ◌≤◌, nat_lt, if◌then◌else◌, List, [], ◌∷◌, ◌++◌, length, map, reverse, get_or, slice_get, Option, Some, None, MatchOption, unwrap_or, inl, inr, refl, ap, ◌∙◌, sym, subst, arith}
+use Rattle.std.proofs.Common.{◌≡◌, ◌≢◌, ◌⊎◌, ℕ, zero, suc, ◌+◌, ◌-◌, ◌<◌, ◌≤◌, nat_lt, if◌then◌else◌, List, [], ◌∷◌, ◌++◌, length, map, reverse, get_or, slice_get, Option, Some, None, MatchOption, unwrap_or, inl, inr, refl, ap, ◌∙◌, sym, arith}
 use Rattle.std.specs.List.{AllByRecursion}
-use Rattle.std.proofs.lemmas.Bool.{cases_lt, cases_order}
+use Rattle.std.proofs.lemmas.Bool.{cases_lt}
 use Rattle.std.proofs.lemmas.Bool.Decides.{nat_tests}
-use Rattle.std.proofs.lemmas.List.{length-map, length-reverse, get_or-reverse, get_or-map}
+use Rattle.std.proofs.lemmas.List.{length-map, get_or-reverse, get_or-map}
 use Rattle.std.proofs.lemmas.Option.{unwrap_or-slice_get}
 use Rattle.binding_terms.specs.Signature.{Signature, Place, slots, binders}
 use Rattle.binding_terms.specs.Scope.{bound}
 use Rattle.binding_terms.specs.Numbered.{AreDifferent}
-use Rattle.binding_terms.specs.Tree as terms
 use Rattle.binding_terms.specs.Tree.{Tree, var, con, Args, no_args, arg, raised}
 use Rattle.binding_terms.specs.Substitution.{under, filled, filled_args}
 use Rattle.binding_terms.proofs.Filling.{under_at, under_past}
@@ -76,7 +75,7 @@ mutual
       let binds : n ≡ m = cc in
       let bodies : filled (under n (λ i. var (r i))) t ≡ filled (under m (λ i. var (r i))) u = cc in
       let there : filled (λ i. var (lifted n r i)) t ≡ filled (λ i. var (lifted n r i)) u =
-          ap (λ f. filled f t) (sym (under_renaming n r)) ∙ bodies ∙ ap (λ k. filled (under k (λ i. var (r i))) u) (sym binds) ∙ ap (λ f. filled f u) (under_renaming n r) in
+      ap (λ f. filled f t) (sym (under_renaming n r)) ∙ bodies ∙ ap (λ k. filled (under k (λ i. var (r i))) u) (sym binds) ∙ ap (λ f. filled f u) (under_renaming n r) in
       let body : t ≡ u = renamed_same (lifted n r) (lifted_injective n r injective) t u there in
       let rest : xs ≡ ys = renamed_args_same r injective xs ys cc in
       cc
@@ -150,8 +149,8 @@ renaming_injective d is different below i j e = at (cases_lt i (length is)) (cas
     at : (i < length is) ⊎ (length is ≤ i) → (j < length is) ⊎ (length is ≤ j) → i ≡ j
     at (inl h) (inl k) =
         let same : length is - 1 - i ≡ length is - 1 - j =
-            place_told is different (length is - 1 - i) (length is - 1 - j) (omega arith) (omega arith)
-            (sym (renaming_at d is i h) ∙ e ∙ renaming_at d is j k) in
+        place_told is different (length is - 1 - i) (length is - 1 - j) (omega arith) (omega arith)
+        (sym (renaming_at d is i h) ∙ e ∙ renaming_at d is j k) in
         omega arith
     at (inl h) (inr k) =
         absurd (omega (arith, e, renaming_at d is i h, renaming_past d is j k, all_below d is below (length is - 1 - i) (omega arith)))
@@ -178,7 +177,7 @@ strict_meta : (first second : Instance) (d m : ℕ) (vs : Values) → AreDistinc
     instance_of first d (meta m vs) ≡ instance_of second d (meta m vs) → value_of first m ≡ value_of second m
 strict_meta first second d m vs distinct below e =
     let shown : (inst : Instance) → argument_or_root d (instances_of inst d vs) ≡ (λ i. var (renaming d (numbers vs) i)) =
-        λ inst. ap (argument_or_root d) (instances_are inst d vs distinct) ∙ arguments_rename d (numbers vs) in
+    λ inst. ap (argument_or_root d) (instances_are inst d vs distinct) ∙ arguments_rename d (numbers vs) in
     renamed_same (renaming d (numbers vs)) (renaming_injective d (numbers vs) (numbers_different vs distinct) (numbers_below d vs distinct below))
     (value_of first m) (value_of second m)
     (ap (λ f. filled f (value_of first m)) (sym (shown first)) ∙ e ∙ ap (λ f. filled f (value_of second m)) (shown second))
@@ -233,5 +232,5 @@ strict_agreement_in_scope sig scope first second ls c m s fits also is strict e 
     let other = zip_at (IsMetaValue sig second) scope.metas second.metas also.metas m named.0 named.1 in
     let same : value_of first m ≡ value_of second m = agreement first second (length ls) m s (scheme_below sig scope ls c s is) strict e in
     let values : unwrap_or one.0 (var 0) ≡ unwrap_or other.0 (var 0) =
-        ap (λ o. unwrap_or (unwrap_or o None) (var 0)) (sym one.1) ∙ same ∙ ap (λ o. unwrap_or (unwrap_or o None) (var 0)) other.1 in
+    ap (λ o. unwrap_or (unwrap_or o None) (var 0)) (sym one.1) ∙ same ∙ ap (λ o. unwrap_or (unwrap_or o None) (var 0)) other.1 in
     one.1 ∙ ap Some (given _ one.0 one.2 ∙ ap Some values ∙ sym (given _ other.0 other.2)) ∙ sym other.1

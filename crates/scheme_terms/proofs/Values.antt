@@ -1,12 +1,12 @@
 -- The variables of a context value: an entry's variable has the index that its place gives.
-use Rattle.std.proofs.Common.{◌≡◌, ◌≢◌, ◌⊎◌, ℕ, zero, suc, ◌+◌, ◌-◌, ◌<◌, Bool, true, false, IsTrue, List, [], ◌∷◌, ◌++◌, length, reverse, Option, Some, None, MatchOption, slice_get, unwrap_or, option_map, inl, inr, refl, ap, ◌∙◌, sym, subst, arith}
+use Rattle.std.proofs.Common.{◌≡◌, ◌≢◌, ℕ, zero, suc, ◌+◌, ◌-◌, true, IsTrue, List, [], ◌∷◌, ◌++◌, length, reverse, Option, Some, None, MatchOption, slice_get, unwrap_or, option_map, inl, inr, refl, ap, ◌∙◌, sym, subst, arith}
 use Rattle.std.specs.Prelude.{MatchBool}
 use Rattle.std.specs.List.{AllByRecursion, list_all}
 use Rattle.std.proofs.lemmas.List.{length-reverse}
-use Rattle.binding_terms.specs.Signature.{Signature, Place, slots, binders, Fits, ProdFits, IsContext, IsContextForm, Extends, is_word, is_empty_form, IsPlain}
+use Rattle.binding_terms.specs.Signature.{Signature, slots, binders, Fits, ProdFits, IsContext, IsContextForm, Extends, is_word, IsPlain}
 use Rattle.binding_terms.proofs.Frames.{append_beyond}
 use Rattle.scheme_terms.specs.Forms.{GroundEntry, ContextValue}
-use Rattle.scheme_terms.specs.Context.{variables, IsEntry, scope_after, scope_of, AreEntries, IsValue, AreArguments}
+use Rattle.scheme_terms.specs.Context.{variables, IsEntry, scope_after, AreEntries, IsValue}
 use Rattle.scheme_terms.specs.SchemeScope.{IsRoot}
 use Rattle.scheme_terms.specs.declared.scheme.Root.{Root}
 use Rattle.scheme_terms.specs.declared.scheme.Root.TheVariants.{Closed, Empty, Whole}
@@ -14,7 +14,7 @@ use Rattle.binding_terms.specs.declared.grammar.Item.{Item}
 use Rattle.binding_terms.specs.declared.grammar.Item.TheVariants.{Word, Slot, Binder}
 use Rattle.binding_terms.specs.declared.grammar.Prod.{Prod}
 use Rattle.binding_terms.specs.declared.grammar.Cat.{Cat}
-use Rattle.scheme_terms.proofs.Options.{match_some, match_at}
+use Rattle.scheme_terms.proofs.Options.{match_some}
 
 -- each entry adds one variable
 abbrev pub AddOne : Signature → List GroundEntry → Type 0

@@ -13,7 +13,10 @@ pub fn shift_scheme(alloc: Global, s: &Scheme, cut: usize, by: usize) -> Result<
     ensures { IfOk result (λ new. scheme new ≡ shifted cut by (scheme s.now)) }
 {
     match s {
-        Scheme::Meta(m, args) => Ok(Scheme::Meta(*m, shift_values(alloc, args.as_slice(), cut, by)?)),
+        Scheme::Meta(m, args) => Ok(Scheme::Meta(
+            *m,
+            shift_values(alloc, args.as_slice(), cut, by)?,
+        )),
         Scheme::Known(k) => Ok(Scheme::Known(*k)),
         Scheme::Local(i) => {
             if *i < cut {
@@ -22,13 +25,21 @@ pub fn shift_scheme(alloc: Global, s: &Scheme, cut: usize, by: usize) -> Result<
                 Ok(Scheme::Local(i.checked_add(by).ok_or(NoMemory)?))
             }
         }
-        Scheme::Con(p, parts) => Ok(Scheme::Con(*p, shift_parts(alloc, parts.as_slice(), cut, by)?)),
+        Scheme::Con(p, parts) => Ok(Scheme::Con(
+            *p,
+            shift_parts(alloc, parts.as_slice(), cut, by)?,
+        )),
     }
 }
 
 #[cycle(shift)]
 #[tactic(auto, using(crate::proofs::Parts::done_shifted_values))]
-fn shift_values(alloc: Global, args: &[Scheme], cut: usize, by: usize) -> Result<Items<Scheme>, NoMemory>
+fn shift_values(
+    alloc: Global,
+    args: &[Scheme],
+    cut: usize,
+    by: usize,
+) -> Result<Items<Scheme>, NoMemory>
     ensures { IfOk result (λ all. values (map scheme all) ≡ shifted_values cut by (values (map scheme args.now))) }
 {
     let mut all = Items::new(alloc);
@@ -40,7 +51,12 @@ fn shift_values(alloc: Global, args: &[Scheme], cut: usize, by: usize) -> Result
 
 #[cycle(shift)]
 #[tactic(auto, using(crate::proofs::Parts::done_shifted_parts))]
-fn shift_parts(alloc: Global, parts: &[SArg], cut: usize, by: usize) -> Result<Items<SArg>, NoMemory>
+fn shift_parts(
+    alloc: Global,
+    parts: &[SArg],
+    cut: usize,
+    by: usize,
+) -> Result<Items<SArg>, NoMemory>
     ensures { IfOk result (λ all. scheme_parts all ≡ shifted_parts cut by (scheme_parts parts.now)) }
 {
     let mut all = Items::new(alloc);

@@ -96,12 +96,7 @@ fn fill_parts(
 }
 
 /// The scheme with arguments put in for its locals.
-fn put_in(
-    alloc: Global,
-    s: &Scheme,
-    args: &[Scheme],
-    locals: usize,
-) -> Result<Scheme, NoMemory>
+fn put_in(alloc: Global, s: &Scheme, args: &[Scheme], locals: usize) -> Result<Scheme, NoMemory>
     ensures { IfOk result (λ new. scheme new ≡ filled (argument_or_local locals (map scheme args.now)) (scheme s.now)) }
 {
     fill(alloc, s, 0, args, locals)

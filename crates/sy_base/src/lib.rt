@@ -8,7 +8,7 @@ mod outside;
 mod steady;
 
 pub use binding_terms::{NoMemory, Text};
-pub use fault::Span;
+pub use fault::{Code, Fault, Refusal, Span};
 pub use host::{HostFiles, StdSink};
 pub use memory::{CutPut, MemFile, MemFiles, MemSink};
 pub use outside::{Files, ReadAnswer, Sink, SinkAnswer};

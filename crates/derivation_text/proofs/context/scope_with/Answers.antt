@@ -11,6 +11,6 @@ returns c =
     ap variables c.in_ok-extend_from_slice.ensures.items
     ∙ (map-append variable _ _
     ∙ ap (λ vs. vs ++ variables c.args.scope.now)
-      (ap variables c.reverse.ensures.items
-      ∙ (variables_reverse c.in_ok-inner.inner.items
-      ∙ ap reverse (c.in_ok-inner.ensures ∙ ap (λ items. numbered (variables c.args.scope.now) (binders items)) c.items_of.ensures))))
+    (ap variables c.reverse.ensures.items
+    ∙ (variables_reverse c.in_ok-inner.inner.items
+    ∙ ap reverse (c.in_ok-inner.ensures ∙ ap (λ items. numbered (variables c.args.scope.now) (binders items)) c.items_of.ensures))))

@@ -13,9 +13,9 @@ returns c =
     let root = c.args.root.now in
     let value = c.args.value.now in
     let scope : variables c.in_ok-scope.scope.items ≡ value_variables sig (context_value root) =
-        c.in_ok-scope.ensures ∙ ap (λ es. with_entries sig [] (plain_entries es)) c.as_slice.ensures in
+    c.in_ok-scope.ensures ∙ ap (λ es. with_entries sig [] (plain_entries es)) c.as_slice.ensures in
     let rest : c.entries_after-rest.result.now ≡ drop (length root.entries) value.entries =
-        c.entries_after-rest.ensures ∙ (λ k. drop (c.len.ensures k) (c.as_slice-2.ensures k)) in
+    c.entries_after-rest.ensures ∙ (λ k. drop (c.len.ensures k) (c.as_slice-2.ensures k)) in
     written_pair c.args.page.now c.token.new.self c.write_entries.new.page _ _
     (c.in_ok-token.ensures ∙ ap (λ name. written c.args.page.now (name ∷ [])) c.root_name.ensures)
     (c.in_ok-write_entries.ensures

@@ -1,4 +1,4 @@
-use Rattle.std.proofs.Common.{◌≡◌, [], ◌≤◌, length, drop, ap, sym, ◌∙◌, arith}
+use Rattle.std.proofs.Common.{◌≡◌, [], length, drop, ap, sym, ◌∙◌, arith}
 use Rattle.std.proofs.lemmas.List.{drop_all}
 use Rattle.rule_schemes.specs.Printing.{empty_form_in}
 use Rattle.derivation_text.specs.Page.{written}
@@ -10,5 +10,5 @@ returns c =
     let prods = c.args.sig.now.prods in
     let same = ap length (c.deref-prod-items.ensures.value ∙ c.prods.ensures) in
     let none : empty_form_in c.args.cat.0 (drop c.loop-prod.prod-index prods) ≡ [] =
-        ap (empty_form_in c.args.cat.0) (drop_all c.loop-prod.prod-index prods (omega arith)) in
+    ap (empty_form_in c.args.cat.0) (drop_all c.loop-prod.prod-index prods (omega arith)) in
     c.loop-prod.invariant.page ∙ (sym (written_nothing c.args.page.now) ∙ ap (written c.args.page.now) (sym none ∙ c.loop-prod.invariant.form))

@@ -9,8 +9,8 @@ invariant-loop-item l = record {
   binders : l.next_binder ≤ l.item-index;
   slots : l.next_slot ≤ l.item-index;
   page : written l.page
-    (laid_out (drop l.item-index l.items) (map (variable_word l.sig) (variables (drop l.next_binder l.binders)))
-    (terms_tokens l.sig (variables l.scope) (drop l.next_slot l.args)))
-    ≡ written l.initial.page
-    (laid_out l.items (map (variable_word l.sig) (variables l.binders)) (terms_tokens l.sig (variables l.scope) l.args));
+      (laid_out (drop l.item-index l.items) (map (variable_word l.sig) (variables (drop l.next_binder l.binders)))
+      (terms_tokens l.sig (variables l.scope) (drop l.next_slot l.args)))
+      ≡ written l.initial.page
+      (laid_out l.items (map (variable_word l.sig) (variables l.binders)) (terms_tokens l.sig (variables l.scope) l.args));
 }

@@ -1,4 +1,4 @@
-use Rattle.std.proofs.Common.{◌+◌, ◌++◌, drop, ap, sym, ◌∙◌, arith}
+use Rattle.std.proofs.Common.{◌++◌, drop, ap, ◌∙◌, arith}
 use Rattle.std.proofs.lemmas.List.{drop_all}
 use Rattle.std.specs.Option.{option_copied}
 use Rattle.rule_schemes.specs.View.{theory}
@@ -17,13 +17,13 @@ loop-i-preserved t c =
     let number = c.in_ok-last.ensures.number in
     record {
       text =
-        lines_step (theory c.args.sys.now) (root_value (option_copied c.args.root)) c.loop-i.text c.push_tree.new.text c.loop-i.last c.in_ok-last.last
-        c.premise.result.now _ _ first c.in_ok-last.ensures.text number
-        ∙ c.loop-i.invariant.text;
+          lines_step (theory c.args.sys.now) (root_value (option_copied c.args.root)) c.loop-i.text c.push_tree.new.text c.loop-i.last c.in_ok-last.last
+          c.premise.result.now _ _ first c.in_ok-last.ensures.text number
+          ∙ c.loop-i.invariant.text;
       numbers =
-        numbers_step c.loop-i.premises.items c.push.new.self.items c.loop-i.last c.in_ok-last.last c.premise.result.now _ _ first
-        c.in_ok-push.ensures.items number
-        ∙ c.loop-i.invariant.numbers;
+          numbers_step c.loop-i.premises.items c.push.new.self.items c.loop-i.last c.in_ok-last.last c.premise.result.now _ _ first
+          c.in_ok-push.ensures.items number
+          ∙ c.loop-i.invariant.numbers;
       last = sizes_step c.loop-i.last c.in_ok-last.last _ c.premise.result.now _ _ first number c.loop-i.invariant.last;
     }
 

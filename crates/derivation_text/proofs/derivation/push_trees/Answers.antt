@@ -12,11 +12,11 @@ loop-tree-preserved c =
     let number = c.in_ok-last.ensures.number in
     record {
       text =
-        lines_step (theory c.args.sys.now) (root_value (option_copied c.args.root)) c.loop-tree.text c.push_tree.new.text c.loop-tree.last
-        c.in_ok-last.last c.tree-item.result _ _ first c.in_ok-last.ensures.text number
-        ∙ c.loop-tree.invariant.text;
+          lines_step (theory c.args.sys.now) (root_value (option_copied c.args.root)) c.loop-tree.text c.push_tree.new.text c.loop-tree.last
+          c.in_ok-last.last c.tree-item.result _ _ first c.in_ok-last.ensures.text number
+          ∙ c.loop-tree.invariant.text;
       numbers =
-        numbers_step c.loop-tree.numbers.items c.push.new.self.items c.loop-tree.last c.in_ok-last.last c.tree-item.result _ _ first
-        c.in_ok-push.ensures.items number
-        ∙ c.loop-tree.invariant.numbers;
+          numbers_step c.loop-tree.numbers.items c.push.new.self.items c.loop-tree.last c.in_ok-last.last c.tree-item.result _ _ first
+          c.in_ok-push.ensures.items number
+          ∙ c.loop-tree.invariant.numbers;
     }

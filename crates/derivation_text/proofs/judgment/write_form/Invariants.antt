@@ -11,7 +11,7 @@ abbrev pub invariant-loop-item : goal.invariant-loop-item
 invariant-loop-item l = record {
   slots : l.next_slot ≤ l.item-index;
   page : written l.page
-    (judgment_form l.form.ctx (drop l.item-index l.form.items) (context_from l.sig (root_value (option_copied l.root)) (context_value l.j.ctx))
-    (terms_tokens l.sig (variables l.scope) (drop l.next_slot l.j.args)))
-    ≡ written l.initial.page (form_tokens l.sig (root_value (option_copied l.root)) l.form l.j (variables l.scope));
+      (judgment_form l.form.ctx (drop l.item-index l.form.items) (context_from l.sig (root_value (option_copied l.root)) (context_value l.j.ctx))
+      (terms_tokens l.sig (variables l.scope) (drop l.next_slot l.j.args)))
+      ≡ written l.initial.page (form_tokens l.sig (root_value (option_copied l.root)) l.form l.j (variables l.scope));
 }

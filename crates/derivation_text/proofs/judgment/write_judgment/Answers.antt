@@ -6,5 +6,5 @@ pub returns-in-None : goal.returns-in-None
 returns-in-None c =
     let number = c.args.j.now.judgment.0 in
     let none : slice_get c.args.sys.now.judgments number ≡ None =
-        ap (λ forms. slice_get forms number) (sym (c.as_slice.ensures.value ∙ c.judgments.ensures)) ∙ sym c.in-None.ensures in
+    ap (λ forms. slice_get forms number) (sym (c.as_slice.ensures.value ∙ c.judgments.ensures)) ∙ sym c.in-None.ensures in
     rw none (sym (written_nothing c.args.page.now))

@@ -11,7 +11,7 @@ invariant-write_items-loop-item l = record {
   slots : l.next_slot ≤ l.item-index;
   page : written l.page (items_tokens l.sig (variables l.scope) (variables l.binders) (variables (drop l.next_binder l.binders))
       (drop l.item-index l.items) (drop l.next_slot l.args))
-    ≡ written l.initial.page (items_tokens l.sig (variables l.scope) (variables l.binders) (variables l.binders) l.items l.args);
+      ≡ written l.initial.page (items_tokens l.sig (variables l.scope) (variables l.binders) (variables l.binders) l.items l.args);
 }
 
 abbrev pub decreases-write_term : goal.decreases-write_term

@@ -1,0 +1,48 @@
+-- The first two things that have a property, or fewer where there are fewer.
+use Rattle.std.specs.Prelude.{◌≡◌, ◌≢◌, ◌⊎◌, ℕ, List, [], ◌∷◌, map, reverse}
+use Rattle.scheme_terms.specs.SchemeTree.{SchemeTree, Parts, part}
+use Rattle.scheme_terms.specs.View.{parts_of, scheme_part}
+use Rattle.scheme_terms.specs.declared.scheme.SArg.{SArg}
+use Rattle.notation_parser.specs.declared.firsts.Firsts.{Firsts}
+use Rattle.notation_parser.specs.declared.firsts.Firsts.TheVariants.{Nothing, One, Two}
+
+-- what is kept, as a list of what it stands for
+abbrev pub listed : {A B : Type 0} → (A → B) → Firsts A → List B
+listed f Nothing = []
+listed f (One a) = f a ∷ []
+listed f (Two a b) = f a ∷ f b ∷ []
+
+-- none, the only one, or two different ones
+abbrev pub AreFirst : {A : Type 0} → (A → Type 0) → List A → Type 0
+AreFirst {A} P [] = (x : A) → P x → ⊥
+AreFirst {A} P (a ∷ []) = P a × ((x : A) → P x → x ≡ a)
+AreFirst P (a ∷ (b ∷ [])) = P a × P b × (a ≢ b)
+AreFirst P _ = ⊥
+
+-- the first two of what stands in the first list or the second
+abbrev pub AreJoined : {A : Type 0} → (first second joined : List A) → Type 0
+AreJoined [] ys zs = zs ≡ ys
+AreJoined (a ∷ []) [] zs = zs ≡ a ∷ []
+AreJoined (a ∷ []) (b ∷ []) zs = ((a ≡ b) × (zs ≡ a ∷ [])) ⊎ ((a ≢ b) × (zs ≡ a ∷ b ∷ []))
+AreJoined (a ∷ []) (b ∷ (c ∷ ys)) zs = ((a ≡ b) × (zs ≡ a ∷ c ∷ [])) ⊎ ((a ≢ b) × (zs ≡ a ∷ b ∷ []))
+AreJoined (a ∷ (b ∷ xs)) ys zs = zs ≡ a ∷ b ∷ xs
+
+-- the first two pairs of one in the first list and one in the second, where the first list counts first
+abbrev pub paired : {A B C : Type 0} → (A → B → C) → List A → List B → List C
+paired f [] ys = []
+paired f (a ∷ xs) [] = []
+paired f (a ∷ []) (c ∷ []) = f a c ∷ []
+paired f (a ∷ (b ∷ xs)) (c ∷ []) = f a c ∷ f b c ∷ []
+paired f (a ∷ xs) (c ∷ (d ∷ ys)) = f a c ∷ f a d ∷ []
+
+abbrev pub IsFull : {A : Type 0} → Firsts A → Type 0
+IsFull (Two a b) = Unit {0}
+IsFull _ = ⊥
+
+-- parts that are kept the last one first
+abbrev pub backwards : List SArg → Parts
+backwards xs = parts_of (reverse (map scheme_part xs))
+
+-- a part before others, as these are kept
+abbrev pub part_after : ℕ → SchemeTree → Parts → Parts
+part_after n s xs = part n s xs

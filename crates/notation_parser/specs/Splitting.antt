@@ -1,0 +1,42 @@
+-- How the items of a form are split over tokens, and how the slots of a split read.
+use Rattle.std.specs.Prelude.{◌≡◌, ◌↔◌, ◌<◌, ◌≤◌, ◌-◌, ◌+◌, ℕ, List, [], ◌∷◌, length, max, slice_get, slice_range, MatchOption}
+use Rattle.std.specs.List.{Contains}
+use Rattle.binding_terms.specs.Signature.{Signature}
+use Rattle.binding_terms.specs.declared.grammar.Item.{Item}
+use Rattle.binding_terms.specs.declared.grammar.Item.TheVariants.{Word, Slot, Binder}
+use Rattle.scheme_terms.specs.SchemeTree.{Parts, no_parts, part}
+use Rattle.scheme_terms.specs.declared.scheme.MetaDecl.{MetaDecl}
+use Rattle.rule_schemes.specs.Reading.{Token, IsTerminal, ReadsTerm}
+use Rattle.notation_parser.specs.declared.splits.Piece.{Piece}
+
+-- the tokens of the slots, where the items begin at a place of the tokens and take all of them from there on
+abbrev pub IsSplit : List Token → List Item → (from : ℕ) → List Piece → Type 0
+IsSplit ts [] n ps = (n ≡ length ts) × (ps ≡ [])
+IsSplit ts (Word text quoted ∷ items) n ps =
+    MatchOption (slice_get ts n) ⊥ (λ t. IsTerminal text t × IsSplit ts items (n + 1) ps)
+IsSplit ts (Binder c ∷ items) n ps = ⊥
+IsSplit ts (Slot c binds ∷ items) n [] = ⊥
+IsSplit ts (Slot c binds ∷ items) n (p ∷ ps) =
+    (p ≡ record { cat = c; binds = length binds; from = n; to = p.to }) × (n < p.to) × (p.to ≤ length ts)
+    × IsSplit ts items p.to ps
+
+-- all splits of the items, and nothing else
+abbrev pub AreSplits : List Token → List Item → (from : ℕ) → List (List Piece) → Type 0
+AreSplits ts items n all = (ps : List Piece) → IsSplit ts items n ps ↔ Contains all ps
+
+-- each slot lies in the tokens
+abbrev pub AreWithin : ℕ → List Piece → Type 0
+AreWithin n [] = Unit {0}
+AreWithin n (p ∷ ps) = (p.from ≤ p.to) × (p.to ≤ n) × AreWithin n ps
+
+-- the number of tokens of the longest slot
+abbrev pub longest : List Piece → ℕ
+longest [] = 0
+longest (p ∷ ps) = max (p.to - p.from) (longest ps)
+
+-- each slot of a split reads, with no variable in scope
+abbrev pub ReadsPieces : Signature → List MetaDecl → List Token → List Piece → Parts → Type 0
+ReadsPieces sig metas ts [] xs = xs ≡ no_parts
+ReadsPieces sig metas ts (p ∷ ps) no_parts = ⊥
+ReadsPieces sig metas ts (p ∷ ps) (part n s xs) =
+    (n ≡ p.binds) × ReadsTerm sig metas [] p.cat.0 (slice_range ts p.from p.to) s × ReadsPieces sig metas ts ps xs
