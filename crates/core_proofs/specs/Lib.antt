@@ -1,5 +1,3 @@
-pub mod FormEquations
-pub mod Plain
 pub mod RuleStep
 pub mod Step
 pub mod Proof

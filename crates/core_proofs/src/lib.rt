@@ -2,7 +2,6 @@
 #![tactic(auto)]
 
 mod laws;
-mod rule_step;
 mod step;
 
 pub use laws::{makes_derives, rule_step_derives};
