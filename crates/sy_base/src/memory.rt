@@ -149,10 +149,10 @@ fn append_front(bytes: &[u8], most: usize, into: &mut Vec<u8>) -> Result<(), All
 
 impl MemSink {
     pub fn new(alloc: Global, failing: Vec<CutPut>) -> MemSink
-        ensures bytes { result.bytes.items ≡ [] }
+        ensures written { ⟦<MemSink as Sink>⟧.written result ≡ Some [] }
         ensures failing { result.failing.items ≡ failing.items }
         ensures calls { result.calls ≡ 0 }
-        ensures faults { result.faults ≡ 0 }
+        ensures faults { ⟦<MemSink as Sink>⟧.faults result ≡ 0 }
     {
         MemSink {
             bytes: Vec::new(alloc),
