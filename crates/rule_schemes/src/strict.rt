@@ -1,81 +1,13 @@
-ghost use Rattle.std.specs.Prelude.{◌≡◌, ◌↔◌, ◌<◌, ◌^◌, ℕ, IsTrue, map, length, IfSome, IfNone};
-ghost use Rattle.std.specs.List.{AllByRecursion};
+ghost use Rattle.std.specs.Prelude.{◌↔◌, ◌<◌, ◌^◌, IsTrue, map, length, IfSome, IfNone};
 ghost use Rattle.binding_terms.specs.Numbered.{AnyByRecursion};
-ghost use Rattle.scheme_terms.specs.SchemeTree.{values, local, IsApart, AreDistinctLocals, StrictIn, StrictInParts};
-ghost use Rattle.scheme_terms.specs.View.{scheme, scheme_part, scheme_parts, scheme_entry};
+ghost use Rattle.scheme_terms.specs.SchemeTree.{StrictIn};
+ghost use Rattle.scheme_terms.specs.View.{scheme, scheme_entry};
 ghost use Rattle.rule_schemes.specs.View.{judgment_scheme, rule as plain_rule};
 ghost use Rattle.rule_schemes.specs.Rules.{StrictInEntries, StrictInJudgment, IsAssumption, StrictInRule};
 ghost use Rattle.rule_schemes.specs.Refused.{IsFirstUnstrict, AllStrict};
-ghost use Rattle.rule_schemes.specs.Tests.{IsLocalApart};
 
 use crate::rule::{JScheme, RuleScheme};
-use scheme_terms::{MetaId, Root, SArg, SEntry, Scheme};
-
-fn is_local(s: &Scheme, index: usize) -> bool
-    ensures { IsTrue result ↔ (scheme s.now ≡ local index) }
-{
-    match s {
-        Scheme::Local(other) => *other == index,
-        _ => false,
-    }
-}
-
-/// Whether none of the arguments is the local with this index.
-fn is_apart(index: usize, args: &[Scheme]) -> bool
-    ensures { IsTrue result ↔ IsApart index (values (map scheme args.now)) }
-{
-    for arg in args {
-        if is_local(arg, index) {
-            return false;
-        }
-    }
-    true
-}
-
-/// Whether an argument is a local, and none of those after it is the same.
-fn is_local_apart(arg: &Scheme, rest: &[Scheme]) -> bool
-    ensures { IsTrue result ↔ IsLocalApart (scheme arg.now) (values (map scheme rest.now)) }
-{
-    match arg {
-        Scheme::Local(index) => is_apart(*index, rest),
-        _ => false,
-    }
-}
-
-fn are_distinct_locals(args: &[Scheme]) -> bool
-    ensures { IsTrue result ↔ AreDistinctLocals (values (map scheme args.now)) }
-{
-    for i in 0..args.len() {
-        if !is_local_apart(&args[i], &args[i + 1..]) {
-            return false;
-        }
-    }
-    true
-}
-
-/// Whether the metavariable stands in the scheme applied to distinct locals, and not inside the arguments of a metavariable.
-#[cycle(strict)]
-fn strict_in(m: MetaId, s: &Scheme) -> bool
-    ensures { IsTrue result ↔ StrictIn m.0 (scheme s.now) }
-{
-    match s {
-        Scheme::Meta(other, args) => other.0 == m.0 && are_distinct_locals(args.as_slice()),
-        Scheme::Con(_, parts) => strict_in_parts(m, parts.as_slice()),
-        _ => false,
-    }
-}
-
-#[cycle(strict)]
-fn strict_in_parts(m: MetaId, parts: &[SArg]) -> bool
-    ensures { IsTrue result ↔ StrictInParts m.0 (scheme_parts parts.now) }
-{
-    for part in parts {
-        if strict_in(m, &part.body) {
-            return true;
-        }
-    }
-    false
-}
+use scheme_terms::{MetaId, Root, SEntry, Scheme, strict_in};
 
 fn strict_in_any(m: MetaId, schemes: &[Scheme]) -> bool
     ensures { IsTrue result ↔ AnyByRecursion (StrictIn m.0) (map scheme schemes.now) }

@@ -18,7 +18,8 @@ fn one_judgment(alloc: Global) -> Result<System, NoMemory>
         ctx: None,
         items: Items::new(alloc),
     })?;
-    System::new(alloc, Sig::make(Vec::new(alloc), Vec::new(alloc)), judgments)
+    let sig = Sig::make(alloc, Vec::new(alloc), Vec::new(alloc))?;
+    System::new(alloc, sig, judgments)
 }
 
 fn axiom(alloc: Global, metas: Items<MetaDecl>) -> RuleScheme

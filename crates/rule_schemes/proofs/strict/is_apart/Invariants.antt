@@ -1,7 +1,0 @@
-use Rattle.std.proofs.Common.{◌↔◌, drop, map}
-use Rattle.scheme_terms.specs.SchemeTree.{values, IsApart}
-use Rattle.scheme_terms.specs.View.{scheme}
-use Rattle.rule_schemes.proofs.strict.is_apart.Given as goal
-
-abbrev pub invariant-loop-arg : goal.invariant-loop-arg
-invariant-loop-arg l = IsApart l.index (values (map scheme (drop l.arg-index l.args))) ↔ IsApart l.index (values (map scheme l.args))
