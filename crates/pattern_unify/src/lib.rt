@@ -4,6 +4,8 @@
 mod demand;
 mod equation;
 mod fitting;
+#[cfg(test)]
+mod tests;
 
 pub use equation::Equation;
 pub use fitting::{fit, fit_into};
