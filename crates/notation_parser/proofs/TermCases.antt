@@ -199,7 +199,7 @@ made_more sig metas p ts all j split found more new slots lt is f g e joined =
     map_more reverse all j split lt ∙ ap (λ s. map reverse (take j all) ++ reverse s ∷ []) (sym is) in
     let here : AreFirst (λ s. (xs : Parts) × (s ≡ con p xs) × ReadsPieces sig metas ts (reverse split) xs) more =
     subst (AreFirst (λ s. (xs : Parts) × (s ≡ con p xs) × ReadsPieces sig metas ts (reverse split) xs)) (sym e)
-    (AreFirst-map (con p) (ReadsPieces sig metas ts (reverse split)) slots (λ a b k. cc) g) in
+    (AreFirst-map (con p) (ReadsPieces sig metas ts (reverse split)) slots (λ a b h i k. cc) g) in
     subst (λ qs. AreFirst (IsMadeIn sig metas p ts qs) new) (sym last)
     (AreFirst-same _ (IsMadeIn sig metas p ts (map reverse (take j all) ++ reverse split ∷ [])) new
     (λ s. one_split_more sig metas p ts (map reverse (take j all)) (reverse split) s)
