@@ -1,5 +1,5 @@
 -- The first two of what has a property, put together.
-use Rattle.std.proofs.Common.{◌≡◌, ◌≢◌, ◌⊎◌, ◌↔◌, List, [], ◌∷◌, map, inl, inr, refl, ap, ◌∙◌, sym, subst, ⊎_elim}
+use Rattle.std.proofs.Common.{◌≡◌, ◌≢◌, ◌⊎◌, ◌↔◌, List, [], ◌∷◌, map, inl, inr, refl, ap, ◌∙◌, sym, subst}
 use Rattle.notation_parser.specs.Firsts.{listed, AreFirst, AreJoined, paired, IsFull}
 use Rattle.notation_parser.specs.declared.firsts.Firsts.{Firsts}
 use Rattle.notation_parser.specs.declared.firsts.Firsts.TheVariants.{Nothing, One, Two}

@@ -4,3 +4,4 @@ pub mod Pieces
 pub mod Splitting
 pub mod TermCases
 pub mod Telling
+pub mod Empty

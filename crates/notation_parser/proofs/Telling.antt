@@ -1,24 +1,21 @@
 -- From the readings of terms and judgments to what forms say.
-use Rattle.std.proofs.Common.{◌≡◌, ◌≢◌, ◌⊎◌, ◌↔◌, ℕ, zero, suc, ◌+◌, ◌<◌, ◌≤◌, List, [], ◌∷◌, ◌++◌, length, map, inl, inr, refl, ap, ◌∙◌, sym, subst, arith, Option, Some, None, slice_get, append-nil}
-use Rattle.std.specs.List.{AllByRecursion}
+use Rattle.std.proofs.Common.{◌≡◌, ℕ, zero, suc, ◌≤◌, List, [], ◌∷◌, ◌++◌, length, map, refl, ap, ◌∙◌, sym, subst, Some, None, slice_get, append-nil}
 use Rattle.binding_terms.specs.Signature.{Signature}
-use Rattle.binding_terms.specs.declared.grammar.CatId.{CatId}
-use Rattle.scheme_terms.specs.SchemeTree.{SchemeTree, con, Parts}
+use Rattle.scheme_terms.specs.SchemeTree.{SchemeTree, con}
 use Rattle.scheme_terms.specs.Forms.{KnownVariable}
 use Rattle.scheme_terms.specs.View.{known_variable}
 use Rattle.scheme_terms.specs.declared.scheme.MetaDecl.{MetaDecl}
-use Rattle.rule_schemes.specs.Reading.{Token, Variable, ReadingScope, not_fresh, known_words, bare, ReadsTerm, ReadsForm, ReadsItems, ReadsJudgment, without_context, with_context}
+use Rattle.rule_schemes.specs.Reading.{Token, ReadingScope, known_words, bare, ReadsTerm, ReadsForm, ReadsJudgment, without_context, with_context}
 use Rattle.rule_schemes.specs.Rules.{JudgmentScheme}
-use Rattle.rule_schemes.specs.Said.{Want, want_term, want_judgment, want_context, Written, a_term, a_judgment, a_context, Said, ReadsWanted, reads_term, reads_judgment, reads_context, AreNewMetas, Reads, ReadsAs, HasOneReading, HasNoReading}
+use Rattle.rule_schemes.specs.Said.{Want, want_term, want_judgment, Written, a_term, a_judgment, Said, ReadsWanted, reads_term, reads_judgment, reads_context, AreNewMetas, Reads, ReadsAs, HasNoReading}
 use Rattle.rule_schemes.specs.declared.rule.Judgment.{Judgment}
 use Rattle.rule_schemes.specs.declared.reading.Reading.{Reading}
 use Rattle.rule_schemes.specs.declared.reading.Reading.TheVariants.{One, NoReading, Ambiguous, TooLong}
 use Rattle.notation_parser.specs.Answer.{IsAnswer, Tells, plainly}
-use Rattle.notation_parser.specs.Cases.{IsMade}
 use Rattle.notation_parser.specs.Firsts.{AreFirst}
 use Rattle.notation_parser.specs.Forms.{IsForm, closed_judgment, judgment_of}
-use Rattle.notation_parser.specs.Plain.{NothingBinds, IsPlain}
-use Rattle.notation_parser.specs.View.{written, what_is_said}
+use Rattle.notation_parser.specs.Plain.{IsPlain}
+use Rattle.notation_parser.specs.View.{written}
 use Rattle.notation_parser.proofs.Finding.{AreFirst-same, AreFirst-map}
 use Rattle.notation_parser.proofs.FormCases.{form_items, items_form, forms_apart}
 use Rattle.notation_parser.proofs.TermCases.{all_at}
@@ -66,9 +63,13 @@ module _ (sig : Signature) (js : List Judgment) (scope : ReadingScope) (want : W
       term_of : {ms : List MetaDecl} {w : Want} {v : Written} {ks : List KnownVariable} → ReadsWanted sig js scope ms ts w v ks → w ≡ want_term c → ms ≡ scope.names.metas
           → (s : SchemeTree) × (v ≡ a_term s) × (ks ≡ []) × ReadsTerm sig scope.names.metas [] c ts s
       term_of {ms = ms} (reads_term {c = d} {s = s} r) e m =
-          let same : d ≡ c = cc in
-          (s, refl, refl, subst (λ k. ReadsTerm sig scope.names.metas [] k ts s) same
-          (subst (λ ns. ReadsTerm sig ns [] d ts s) m (subst (λ vs. ReadsTerm sig ms vs d ts s) bare_variables r)))
+          let same : d ≡ c = cc in (
+            s,
+            refl,
+            refl,
+            subst (λ k. ReadsTerm sig scope.names.metas [] k ts s) same
+                (subst (λ ns. ReadsTerm sig ns [] d ts s) m (subst (λ vs. ReadsTerm sig ms vs d ts s) bare_variables r)),
+          )
       term_of (reads_judgment r) e m = cc
       term_of (reads_context {c = d} r) e m = cc
 

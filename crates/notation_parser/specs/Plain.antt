@@ -1,5 +1,5 @@
 -- Forms in which nothing binds: what is read so far.
-use Rattle.std.specs.Prelude.{◌≡◌, ℕ, List, [], None}
+use Rattle.std.specs.Prelude.{◌≡◌, List, [], None}
 use Rattle.std.specs.List.{AllByRecursion}
 use Rattle.binding_terms.specs.Signature.{Signature}
 use Rattle.scheme_terms.specs.declared.scheme.MetaDecl.{MetaDecl}

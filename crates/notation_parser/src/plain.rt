@@ -1,13 +1,14 @@
 // The test of what is read so far.
-ghost use Rattle.std.specs.Prelude.{◌≡◌, ◌↔◌, IsTrue, None, []};
+ghost use Rattle.std.specs.Prelude.{◌≡◌, ◌↔◌, IsTrue, None, [], map};
+ghost use Rattle.scheme_terms.specs.View.{known_variable};
 ghost use Rattle.std.specs.List.{AllByRecursion};
 ghost use Rattle.notation_parser.specs.Plain.{IsPlain, IsNoContext};
 ghost use Rattle.rule_schemes.specs.Reading.{not_fresh};
-ghost use Rattle.notation_parser.specs.View.{wanted, reading_scope};
+ghost use Rattle.notation_parser.specs.View.{wanted, reading_scope, freshness_of, scope_words};
 
-use binding_terms::{Cat, Sig};
+use binding_terms::{Cat, CatId, Sig, Text};
 use rule_schemes::{Fresh, Judgment, ReadScope, Want};
-use scheme_terms::MetaDecl;
+use scheme_terms::{KnownDecl, MetaDecl};
 
 fn no_variables(cats: &[Cat]) -> bool
     ensures { IsTrue result ↔ AllByRecursion (λ c. c.var ≡ None) cats.now }
@@ -52,11 +53,26 @@ fn is_no_context(want: Want) -> bool
     }
 }
 
-fn is_bare(scope: &ReadScope) -> bool
-    ensures { IsTrue result
-        ↔ ((reading_scope scope.now).names.knowns ≡ []) × ((reading_scope scope.now).vars ≡ []) × ((reading_scope scope.now).fresh ≡ not_fresh) }
+fn is_not_fresh(fresh: Fresh) -> bool
+    ensures { IsTrue result ↔ (freshness_of fresh ≡ not_fresh) }
 {
-    scope.scope.knowns.is_empty() && scope.vars.is_empty() && scope.fresh == Fresh::No
+    match fresh {
+        Fresh::No => true,
+        Fresh::Names => false,
+        Fresh::Head => false,
+    }
+}
+
+fn no_knowns(knowns: &[KnownDecl]) -> bool
+    ensures { IsTrue result ↔ (map known_variable knowns.now ≡ []) }
+{
+    knowns.len() == 0
+}
+
+fn no_words(vars: &[(Text, CatId)]) -> bool
+    ensures { IsTrue result ↔ (scope_words vars.now ≡ []) }
+{
+    vars.len() == 0
 }
 
 /// Whether forms are read here: nothing binds, and neither contexts, variables nor new names stand in them.
@@ -66,6 +82,8 @@ pub fn is_plain(sig: &Sig, judgments: &Vec<Judgment>, scope: &ReadScope, want: W
     no_variables(sig.cats().as_slice())
         && no_parameters(scope.scope.metas.as_slice())
         && no_contexts(judgments.as_slice())
-        && is_bare(scope)
+        && no_knowns(scope.scope.knowns.as_slice())
+        && no_words(scope.vars.as_slice())
+        && is_not_fresh(scope.fresh)
         && is_no_context(want)
 }

@@ -66,10 +66,7 @@ fn as_judgments(alloc: Global, found: Firsts<Scheme>) -> Result<Firsts<Written>,
     match found {
         Firsts::Nothing => Ok(Firsts::Nothing),
         Firsts::One(a) => Ok(Firsts::One(as_judgment(alloc, &a)?)),
-        Firsts::Two(a, b) => Ok(Firsts::Two(
-            as_judgment(alloc, &a)?,
-            as_judgment(alloc, &b)?,
-        )),
+        Firsts::Two(a, b) => Ok(Firsts::Two(as_judgment(alloc, &a)?, as_judgment(alloc, &b)?)),
     }
 }
 

@@ -78,10 +78,7 @@ fn name(
     if decl.cat.0 != cat.0 || !is_word(decl.name.bytes(), &tokens[0]) {
         return Ok(Firsts::Nothing);
     }
-    Ok(Firsts::One(Scheme::Meta(
-        MetaId(number(m)?),
-        Items::new(alloc),
-    )))
+    Ok(Firsts::One(Scheme::Meta(MetaId(number(m)?), Items::new(alloc))))
 }
 
 /// The metavariables of the category whose name the tokens are.

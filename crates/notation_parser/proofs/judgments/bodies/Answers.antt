@@ -1,6 +1,6 @@
-use Rattle.std.proofs.Common.{◌≡◌, map, take, ap, ◌∙◌}
+use Rattle.std.proofs.Common.{◌≡◌, map, take, ◌∙◌}
 use Rattle.std.proofs.lemmas.List.{take_all}
-use Rattle.scheme_terms.specs.View.{scheme, scheme_part}
+use Rattle.scheme_terms.specs.View.{scheme_part}
 use Rattle.notation_parser.proofs.FormCases.{bare_parts}
 use Rattle.notation_parser.proofs.judgments.bodies.Goals as goal
 

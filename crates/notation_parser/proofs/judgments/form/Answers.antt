@@ -1,4 +1,4 @@
-use Rattle.std.proofs.Common.{◌≡◌, map, reverse, take, length, subst}
+use Rattle.std.proofs.Common.{◌≡◌, map, reverse, take, subst}
 use Rattle.std.proofs.lemmas.List.{length-map, take_all}
 use Rattle.scheme_terms.specs.View.{scheme}
 use Rattle.notation_parser.specs.Cases.{IsMade}

@@ -1,8 +1,7 @@
-use Rattle.std.proofs.Common.{◌≡◌, ◌+◌, map, refl}
+use Rattle.std.proofs.Common.{◌+◌, map, refl}
 use Rattle.std.proofs.lemmas.Option.{slice_get_read}
 use Rattle.scheme_terms.specs.View.{scheme}
 use Rattle.notation_parser.specs.Cases.{IsMade}
-use Rattle.notation_parser.specs.Firsts.{listed, AreFirst}
 use Rattle.notation_parser.specs.Forms.{IsForm}
 use Rattle.notation_parser.specs.View.{token}
 use Rattle.notation_parser.proofs.Finding.{AreFirst-same, AreFirst-joined, AreFirst-full}

@@ -1,4 +1,4 @@
-use Rattle.std.proofs.Common.{◌≡◌, ◌↔◌, None, [], drop}
+use Rattle.std.proofs.Common.{◌≡◌, ◌↔◌, [], drop}
 use Rattle.std.specs.List.{AllByRecursion}
 use Rattle.notation_parser.proofs.plain.no_parameters.Given as goal
 

@@ -1,9 +1,6 @@
 use Rattle.std.proofs.Common.{◌≡◌, ◌≤◌, length, map, ap, arith}
 use Rattle.std.proofs.lemmas.List.{length-map}
-use Rattle.scheme_terms.specs.View.{scheme}
-use Rattle.rule_schemes.specs.Said.{a_term, a_judgment, want_term, want_judgment}
-use Rattle.notation_parser.specs.Firsts.{listed}
-use Rattle.notation_parser.specs.Forms.{judgment_of}
+use Rattle.rule_schemes.specs.Said.{want_term, want_judgment}
 use Rattle.notation_parser.specs.View.{token, wanted, reading_scope}
 use Rattle.notation_parser.proofs.Telling.{terms_said, judgments_said, answered}
 use Rattle.notation_parser.proofs.reader.read.Goals as goal
