@@ -12,3 +12,6 @@ mod words;
 pub use plain::is_plain;
 pub use reader::read;
 pub use rule_schemes::{Fresh, ReadScope, Reading, Said, Want, Written};
+
+#[cfg(test)]
+mod tests;
