@@ -1,5 +1,5 @@
 -- The first two of what has a property, put together.
-use Rattle.std.proofs.Common.{◌≡◌, ◌≢◌, ◌⊎◌, ◌↔◌, List, [], ◌∷◌, map, inl, inr, refl, ap, ◌∙◌, sym, subst, ⊎_elim}
+use Rattle.std.proofs.Common.{◌≡◌, ◌≢◌, ◌⊎◌, ◌↔◌, List, [], ◌∷◌, map, inl, inr, refl, ap, ◌∙◌, sym, subst}
 use Rattle.notation_parser.specs.Firsts.{listed, AreFirst, AreJoined, paired, IsFull}
 use Rattle.notation_parser.specs.declared.firsts.Firsts.{Firsts}
 use Rattle.notation_parser.specs.declared.firsts.Firsts.TheVariants.{Nothing, One, Two}
@@ -58,10 +58,10 @@ AreFirst-paired f P Q (a ∷ (b ∷ [])) (c ∷ (d ∷ [])) apart g h =
 AreFirst-paired f P Q (a ∷ (b ∷ (e ∷ xs))) (c ∷ (d ∷ [])) apart g h = absurd g
 AreFirst-paired f P Q (a ∷ xs) (c ∷ (d ∷ (e ∷ ys))) apart g h = absurd h
 
--- of what is made of each
-pub AreFirst-map : {A B : Type 0} (f : A → B) (P : A → Type 0) (xs : List A) → ((a b : A) → f a ≡ f b → a ≡ b) → AreFirst P xs
+-- of what is made of each, where different ones make different ones
+pub AreFirst-map : {A B : Type 0} (f : A → B) (P : A → Type 0) (xs : List A) → ((a b : A) → P a → P b → f a ≡ f b → a ≡ b) → AreFirst P xs
     → AreFirst (λ y. (x : A) × (y ≡ f x) × P x) (map f xs)
 AreFirst-map f P [] apart h = λ y s. h s.0 s.2
 AreFirst-map f P (a ∷ []) apart h = ((a, refl, h.0), λ y s. s.1 ∙ ap f (h.1 s.0 s.2))
-AreFirst-map f P (a ∷ (b ∷ [])) apart h = ((a, refl, h.0), (b, refl, h.1), λ e. h.2 (apart a b e))
+AreFirst-map f P (a ∷ (b ∷ [])) apart h = ((a, refl, h.0), (b, refl, h.1), λ e. h.2 (apart a b h.0 h.1 e))
 AreFirst-map f P (a ∷ (b ∷ (c ∷ xs))) apart h = absurd h

@@ -1,14 +1,14 @@
 -- The readings of items are the readings of the slots in their splits.
-use Rattle.std.proofs.Common.{◌≡◌, ◌≢◌, ◌⊎◌, ◌↔◌, ℕ, zero, suc, ◌+◌, ◌-◌, ◌<◌, ◌≤◌, max, List, [], ◌∷◌, ◌++◌, length, map, take, drop, reverse, inl, inr, refl, ap, ◌∙◌, sym, subst, get_or, arith, Option, Some, None, slice_get, slice_range, MatchOption, length-drop, length-take, length-append, append-nil, append_assoc}
+use Rattle.std.proofs.Common.{◌≡◌, ◌≢◌, ◌↔◌, ℕ, zero, suc, ◌+◌, ◌-◌, ◌<◌, ◌≤◌, List, [], ◌∷◌, ◌++◌, length, take, drop, reverse, refl, ap, ◌∙◌, sym, subst, get_or, arith, Option, Some, None, slice_get, slice_range, MatchOption, length-drop, length-take, length-append}
 use Rattle.std.specs.List.{Contains, AllByRecursion}
-use Rattle.std.proofs.lemmas.List.{drop_more, drop_all, take_more, take_all, drop-drop, take_at, drop_at, reverse-append, take-append-drop}
+use Rattle.std.proofs.lemmas.List.{drop_more, drop_all, take_more, drop-drop, take_at, drop_at, reverse-append, take-append-drop}
 use Rattle.std.proofs.lemmas.Option.{slice_get-get_or, get_or_from_slice_get, slice_get_within}
-use Rattle.binding_terms.specs.Signature.{Signature, IsSingle, binders}
+use Rattle.binding_terms.specs.Signature.{Signature, IsSingle}
 use Rattle.binding_terms.specs.declared.grammar.Cat.{Cat}
 use Rattle.binding_terms.specs.declared.grammar.Item.{Item}
 use Rattle.binding_terms.specs.declared.grammar.Item.TheVariants.{Word, Slot, Binder}
 use Rattle.binding_terms.specs.declared.grammar.CatId.{CatId}
-use Rattle.scheme_terms.specs.SchemeTree.{SchemeTree, Parts, no_parts, part}
+use Rattle.scheme_terms.specs.SchemeTree.{Parts, no_parts, part}
 use Rattle.scheme_terms.specs.declared.scheme.MetaDecl.{MetaDecl}
 use Rattle.rule_schemes.specs.Reading.{Token, IsTerminal, Variable, slot_variables, variable_at, IsVariableWord, ReadsTerm, ReadsItems, all_read, terminal, binder, slot}
 use Rattle.notation_parser.specs.Splitting.{IsSplit, AreSplits, AreWithin, longest, ReadsPieces}

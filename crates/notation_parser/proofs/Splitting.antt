@@ -1,5 +1,5 @@
 -- Splits of items over tokens.
-use Rattle.std.proofs.Common.{◌≡◌, ◌≢◌, ◌⊎◌, ◌↔◌, ℕ, zero, suc, ◌+◌, ◌<◌, ◌≤◌, List, [], ◌∷◌, ◌++◌, length, map, take, drop, inl, inr, refl, ap, ◌∙◌, sym, subst, get_or, rules, arith, Option, Some, None, slice_get, MatchOption, if◌then◌else◌, Bool, true, false, IsTrue, Result, Ok, Err, IfOk}
+use Rattle.std.proofs.Common.{◌≡◌, ◌⊎◌, ◌↔◌, ℕ, zero, suc, ◌+◌, ◌<◌, ◌≤◌, List, [], ◌∷◌, ◌++◌, length, map, drop, inl, inr, refl, ap, ◌∙◌, sym, subst, get_or, arith, Some, slice_get, MatchOption, if◌then◌else◌, Bool, true, false, IsTrue, Result, Ok, Err, IfOk}
 use Rattle.std.proofs.lemmas.Option.{slice_get_past, slice_get_read, slice_get-map, slice_get-get_or}
 use Rattle.std.specs.Option.{option_map}
 use Rattle.proof_lexer.specs.declared.token.Token as of_tokens
@@ -7,7 +7,7 @@ use Rattle.proof_lexer.specs.declared.token.Kind.TheVariants as kinds
 use Rattle.std.specs.List.{Contains}
 use Rattle.std.proofs.lemmas.List.Elements.{Contains-append_left, Contains-append_right, Contains-append_cases, Contains-get_or}
 use Rattle.std.proofs.lemmas.Bool.{cases_lt}
-use Rattle.std.proofs.lemmas.List.{get_or-map, length-map, drop_more, drop_all}
+use Rattle.std.proofs.lemmas.List.{get_or-map, length-map, drop_more}
 use Rattle.binding_terms.specs.declared.grammar.Item.{Item}
 use Rattle.binding_terms.specs.declared.grammar.Item.TheVariants.{Word, Slot, Binder}
 use Rattle.binding_terms.specs.declared.grammar.CatId.{CatId}

@@ -1,10 +1,10 @@
 -- The readings of a term by their cases, and of a production by its splits.
-use Rattle.std.proofs.Common.{◌≡◌, ◌≢◌, ◌⊎◌, ◌↔◌, ℕ, zero, suc, ◌+◌, ◌-◌, ◌<◌, ◌≤◌, List, [], ◌∷◌, ◌++◌, length, map, take, drop, reverse, inl, inr, refl, ap, ◌∙◌, sym, subst, get_or, length-take, arith, Option, Some, None, slice_get, slice_range}
+use Rattle.std.proofs.Common.{◌≡◌, ◌⊎◌, ◌↔◌, ℕ, zero, suc, ◌+◌, ◌-◌, ◌<◌, ◌≤◌, List, [], ◌∷◌, ◌++◌, length, map, take, drop, reverse, inl, inr, refl, ap, ◌∙◌, sym, subst, get_or, length-take, arith, Some, slice_get, slice_range}
 use Rattle.std.specs.List.{Contains, AllByRecursion}
 use Rattle.std.proofs.lemmas.List.{take_more, take_all, take-map, drop-map, take-append-drop, reverse-append, map_more, map-append, append_cancel_right}
 use Rattle.std.proofs.lemmas.List.Elements.{Contains-push, Contains-push_cases, Contains-append_left}
 use Rattle.std.proofs.lemmas.Bool.{cases_lt}
-use Rattle.std.proofs.lemmas.Option.{slice_get-get_or, get_or_from_slice_get, slice_get_within}
+use Rattle.std.proofs.lemmas.Option.{slice_get_within}
 use Rattle.binding_terms.specs.Signature.{Signature, binders}
 use Rattle.binding_terms.specs.declared.grammar.Item.{Item}
 use Rattle.binding_terms.specs.declared.grammar.Prod.{Prod}
@@ -17,7 +17,7 @@ use Rattle.notation_parser.specs.Plain.{NothingBinds}
 use Rattle.notation_parser.specs.Splitting.{IsSplit, AreSplits, ReadsPieces}
 use Rattle.notation_parser.specs.declared.splits.Piece.{Piece}
 use Rattle.notation_parser.proofs.Finding.{AreFirst-same, AreFirst-paired, AreFirst-joined, AreFirst-map}
-use Rattle.notation_parser.proofs.Pieces.{no_words, items_read, one_more_back, suffix_reads}
+use Rattle.notation_parser.proofs.Pieces.{no_words, items_read, suffix_reads}
 use Rattle.notation_parser.proofs.Splitting.{contains_map}
 
 -- the metavariables below one number more
@@ -199,7 +199,7 @@ made_more sig metas p ts all j split found more new slots lt is f g e joined =
     map_more reverse all j split lt ∙ ap (λ s. map reverse (take j all) ++ reverse s ∷ []) (sym is) in
     let here : AreFirst (λ s. (xs : Parts) × (s ≡ con p xs) × ReadsPieces sig metas ts (reverse split) xs) more =
     subst (AreFirst (λ s. (xs : Parts) × (s ≡ con p xs) × ReadsPieces sig metas ts (reverse split) xs)) (sym e)
-    (AreFirst-map (con p) (ReadsPieces sig metas ts (reverse split)) slots (λ a b k. cc) g) in
+    (AreFirst-map (con p) (ReadsPieces sig metas ts (reverse split)) slots (λ a b h i k. cc) g) in
     subst (λ qs. AreFirst (IsMadeIn sig metas p ts qs) new) (sym last)
     (AreFirst-same _ (IsMadeIn sig metas p ts (map reverse (take j all) ++ reverse split ∷ [])) new
     (λ s. one_split_more sig metas p ts (map reverse (take j all)) (reverse split) s)
@@ -252,7 +252,6 @@ pub is_group : (sig : Signature) (metas : List MetaDecl) (c : ℕ) (ts : List To
     → get_or ts (length ts - 1) d ≡ punctuation 41 → ReadsTerm sig metas [] c (slice_range ts 1 (length ts - 1)) s ↔ IsGroup sig metas c ts s
 is_group sig metas c ts d s h first last = (λ r. (slice_range ts 1 (length ts - 1), in_parentheses ts d h first last, r), back)
   where
-
     back : IsGroup sig metas c ts s → ReadsTerm sig metas [] c (slice_range ts 1 (length ts - 1)) s
     back k =
         let mid = slice_range ts 1 (length ts - 1) in

@@ -1,5 +1,5 @@
 -- How a term reads where no variable is in scope: as a group, as a metavariable or by a production.
-use Rattle.std.specs.Prelude.{◌≡◌, ◌<◌, ◌⊎◌, ℕ, List, [], ◌∷◌, ◌++◌, length, Some, slice_get}
+use Rattle.std.specs.Prelude.{◌≡◌, ◌<◌, ◌⊎◌, ℕ, List, [], ◌∷◌, ◌++◌, Some, slice_get}
 use Rattle.binding_terms.specs.Signature.{Signature}
 use Rattle.binding_terms.specs.declared.grammar.Prod.{Prod}
 use Rattle.binding_terms.specs.declared.grammar.Item.{Item}

@@ -1,10 +1,28 @@
 -- Forms in which nothing binds: what is read so far.
-use Rattle.std.specs.Prelude.{◌≡◌, ℕ, List, [], None}
+use Rattle.std.specs.Prelude.{◌≡◌, List, [], None}
 use Rattle.std.specs.List.{AllByRecursion}
 use Rattle.binding_terms.specs.Signature.{Signature}
 use Rattle.scheme_terms.specs.declared.scheme.MetaDecl.{MetaDecl}
+use Rattle.rule_schemes.specs.Reading.{ReadingScope, not_fresh}
+use Rattle.rule_schemes.specs.Said.{Want, want_term, want_judgment, want_context}
+use Rattle.rule_schemes.specs.declared.rule.Judgment.{Judgment}
 
 -- no category has variables, and no metavariable has parameters
 pub record NothingBinds (sig : Signature) (metas : List MetaDecl) : Type 0 where
   pub variables : AllByRecursion (λ c. c.var ≡ None) sig.cats
   pub parameters : AllByRecursion (λ m. m.params ≡ []) metas
+
+abbrev pub IsNoContext : Want → Type 0
+IsNoContext (want_term c) = Unit {0}
+IsNoContext want_judgment = Unit {0}
+IsNoContext (want_context c) = ⊥
+
+-- Nothing binds, no judgment assumes a context, no variable is in scope, and no new name may stand in the form. This condition
+-- is to go: forms that bind are read by the same relation.
+pub record IsPlain (sig : Signature) (js : List Judgment) (scope : ReadingScope) (want : Want) : Type 0 where
+  pub nothing_binds : NothingBinds sig scope.names.metas
+  pub judgments : AllByRecursion (λ j. j.ctx ≡ None) js
+  pub knowns : scope.names.knowns ≡ []
+  pub vars : scope.vars ≡ []
+  pub fresh : scope.fresh ≡ not_fresh
+  pub no_context : IsNoContext want

@@ -1,5 +1,7 @@
 -- What contracts see of tokens, of what is wanted and of what a form says. Held against docs/notation.md on readings.
 use Rattle.std.specs.Prelude.{ℕ, List, map, reverse}
+use Rattle.binding_terms.specs.declared.grammar.CatId.{CatId}
+use Rattle.binding_terms.specs.declared.text.Text.{Text}
 use Rattle.scheme_terms.specs.View.{scheme, scheme_context, known_variable, names}
 use Rattle.rule_schemes.specs.Reading.{Variable, bound, Fresh, not_fresh, fresh_names, fresh_head, ReadingScope}
 use Rattle.rule_schemes.specs.Reading as reading
@@ -40,11 +42,14 @@ freshness_of freshness.Names = fresh_names
 freshness_of freshness.Head = fresh_head
 
 -- the words of a scope's variables, the innermost first
+abbrev pub scope_words : List (Text × CatId) → List Variable
+scope_words vs = reverse (map (λ v. record { word = v.0; cat = v.1.0; means = bound }) vs)
+
 abbrev pub reading_scope : ReadScope → ReadingScope
 reading_scope s =
     record {
       names = names s.scope;
-      vars = reverse (map (λ v. record { word = v.0; cat = v.1.0; means = bound }) s.vars);
+      vars = scope_words s.vars;
       fresh = freshness_of s.fresh;
     }
 

@@ -2,6 +2,16 @@
 #![tactic(auto)]
 
 mod firsts;
+mod judgments;
+mod plain;
+mod reader;
 mod splits;
 mod terms;
 mod words;
+
+pub use plain::is_plain;
+pub use reader::read;
+pub use rule_schemes::{Fresh, ReadScope, Reading, Said, Want, Written};
+
+#[cfg(test)]
+mod tests;

@@ -18,7 +18,7 @@ use scheme_terms::{MetaDecl, MetaId, SArg, Scheme};
 use sqlite_items::Items;
 use std::alloc::Global;
 
-fn number(at: usize) -> Result<u32, NoMemory>
+pub fn number(at: usize) -> Result<u32, NoMemory>
     ensures { IfOk result (λ n. n ≡ at) }
 {
     match u32::try_from(at) {
@@ -45,7 +45,7 @@ fn product_of(alloc: Global, prod: ProdId, parts: Items<SArg>) -> Result<Scheme,
 }
 
 /// The production with each of the parts.
-fn products(
+pub fn products(
     alloc: Global,
     prod: ProdId,
     found: Firsts<Items<SArg>>,
@@ -78,10 +78,7 @@ fn name(
     if decl.cat.0 != cat.0 || !is_word(decl.name.bytes(), &tokens[0]) {
         return Ok(Firsts::Nothing);
     }
-    Ok(Firsts::One(Scheme::Meta(
-        MetaId(number(m)?),
-        Items::new(alloc),
-    )))
+    Ok(Firsts::One(Scheme::Meta(MetaId(number(m)?), Items::new(alloc))))
 }
 
 /// The metavariables of the category whose name the tokens are.
@@ -122,7 +119,7 @@ fn tokens_of<'a, 'b>(tokens: &'a [Token<'b>], piece: Piece) -> &'a [Token<'b>]
 
 /// The readings of the slots together, where the last slot stands first and the last part is told first.
 #[cycle(terms)]
-fn parts(
+pub fn parts(
     alloc: Global,
     sig: &Sig,
     metas: &[MetaDecl],

@@ -9,7 +9,10 @@ fn is_bracket(text: &[u8]) -> bool
     ensures { IsTrue result
         ↔ ((text.now ≡ 40 ∷ []) ⊎ (text.now ≡ 41 ∷ []) ⊎ (text.now ≡ 91 ∷ []) ⊎ (text.now ≡ 93 ∷ [])) }
 {
-    text == b"(".as_slice() || text == b")".as_slice() || text == b"[".as_slice() || text == b"]".as_slice()
+    text == b"(".as_slice()
+        || text == b")".as_slice()
+        || text == b"[".as_slice()
+        || text == b"]".as_slice()
 }
 
 fn may_be_terminal(kind: Kind, text: &[u8]) -> bool

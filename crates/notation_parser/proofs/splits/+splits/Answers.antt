@@ -1,7 +1,6 @@
-use Rattle.std.proofs.Common.{◌≡◌, ◌+◌, ◌<◌, ◌≤◌, List, [], ◌∷◌, get_or, length, map, reverse, drop, true≢false, sym, ◌∙◌, ap, arith}
+use Rattle.std.proofs.Common.{◌≡◌, ◌+◌, ◌<◌, ◌≤◌, [], get_or, length, map, reverse, drop, true≢false, sym, ◌∙◌, arith}
 use Rattle.std.proofs.lemmas.List.{length-map}
 use Rattle.rule_schemes.specs.Reading.{IsTerminal}
-use Rattle.notation_parser.specs.Splitting.{AreSplits}
 use Rattle.notation_parser.specs.View.{token}
 use Rattle.notation_parser.proofs.Splitting.{one_end_more, item_splits, token_or_at, no_token, no_word_left, another_word, word_item_splits, if_ok}
 use Rattle.notation_parser.proofs.splits.+splits.Goals as goal

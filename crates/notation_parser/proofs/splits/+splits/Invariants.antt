@@ -1,4 +1,4 @@
-use Rattle.std.proofs.Common.{◌≡◌, ◌↔◌, ◌+◌, ◌-◌, ◌*◌, List, ◌∷◌, map, reverse, drop, length}
+use Rattle.std.proofs.Common.{◌↔◌, ◌+◌, ◌-◌, ◌*◌, List, ◌∷◌, map, reverse, drop, length}
 use Rattle.std.specs.List.{Contains}
 use Rattle.binding_terms.specs.declared.grammar.Item.TheVariants.{Slot}
 use Rattle.notation_parser.specs.Splitting.{IsSplit}

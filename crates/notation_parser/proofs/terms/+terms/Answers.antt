@@ -1,11 +1,11 @@
-use Rattle.std.proofs.Common.{◌≡◌, ◌↔◌, ◌+◌, ◌-◌, ◌*◌, ◌<◌, ◌≤◌, [], ◌∷◌, ◌++◌, length, map, reverse, take, drop, get_or, slice_get, slice_range, Some, refl, ap, ◌∙◌, sym, subst, arith}
+use Rattle.std.proofs.Common.{◌≡◌, ◌+◌, ◌-◌, ◌<◌, ◌≤◌, [], ◌∷◌, ◌++◌, length, map, reverse, take, drop, get_or, slice_get, slice_range, Some, refl, ap, ◌∙◌, sym, subst, arith}
 use Rattle.std.proofs.lemmas.List.{length-map, take_all, get_or-map}
 use Rattle.std.proofs.lemmas.Option.{slice_get_read}
 use Rattle.scheme_terms.specs.View.{scheme}
 use Rattle.rule_schemes.specs.Reading.{ReadsTerm, punctuation}
 use Rattle.notation_parser.specs.Cases.{IsGroup, IsName, IsMade, IsProduct, IsReadBelow}
 use Rattle.notation_parser.specs.Firsts.{listed, AreFirst, backwards}
-use Rattle.notation_parser.specs.Splitting.{AreSplits, AreWithin, longest, ReadsPieces, IsSplit}
+use Rattle.notation_parser.specs.Splitting.{AreSplits, AreWithin, longest, ReadsPieces}
 use Rattle.notation_parser.specs.View.{token}
 use Rattle.notation_parser.specs.declared.splits.Piece.{Piece}
 use Rattle.notation_parser.proofs.Finding.{AreFirst-same, AreFirst-joined, AreFirst-full}

@@ -1,8 +1,6 @@
-use Rattle.std.proofs.Common.{◌≡◌, ◌+◌, map, refl}
+use Rattle.std.proofs.Common.{◌+◌, map, refl}
 use Rattle.std.proofs.lemmas.Option.{slice_get_read}
-use Rattle.scheme_terms.specs.View.{scheme}
 use Rattle.notation_parser.specs.Cases.{IsName, IsNameOf, IsNameBelow}
-use Rattle.notation_parser.specs.Firsts.{listed, AreFirst}
 use Rattle.notation_parser.specs.View.{token}
 use Rattle.notation_parser.proofs.Finding.{AreFirst-same, AreFirst-joined}
 use Rattle.notation_parser.proofs.TermCases.{one_name_more, all_names}

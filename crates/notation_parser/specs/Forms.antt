@@ -1,0 +1,26 @@
+-- How judgments without a context read: by the form of one of them, kept as the product of its number and its parts.
+use Rattle.std.specs.Prelude.{◌≡◌, ℕ, List, [], Some, slice_get}
+use Rattle.binding_terms.specs.Signature.{Signature}
+use Rattle.scheme_terms.specs.SchemeTree.{SchemeTree, meta, known, local, con}
+use Rattle.scheme_terms.specs.declared.scheme.MetaDecl.{MetaDecl}
+use Rattle.scheme_terms.specs.declared.scheme.Root.TheVariants.{Closed}
+use Rattle.rule_schemes.specs.Reading.{Token, bare}
+use Rattle.rule_schemes.specs.Rules.{JudgmentScheme}
+use Rattle.rule_schemes.specs.declared.rule.Judgment.{Judgment}
+use Rattle.notation_parser.specs.Cases.{IsMade}
+
+abbrev pub IsFormAt : Signature → List MetaDecl → List Judgment → (number : ℕ) → List Token → SchemeTree → Type 0
+IsFormAt sig metas js k ts s = (j : Judgment) × (slice_get js k ≡ Some j) × IsMade sig metas k j.items ts s
+
+abbrev pub IsForm : Signature → List MetaDecl → List Judgment → List Token → SchemeTree → Type 0
+IsForm sig metas js ts s = (k : ℕ) × IsFormAt sig metas js k ts s
+
+abbrev pub closed_judgment : ℕ → List SchemeTree → JudgmentScheme
+closed_judgment k ss = record { judgment = k; context = record { root = Closed; entries = [] }; args = ss }
+
+-- the judgment that is kept as a product
+abbrev pub judgment_of : SchemeTree → JudgmentScheme
+judgment_of (con k xs) = closed_judgment k (bare xs)
+judgment_of (meta m vs) = closed_judgment 0 []
+judgment_of (known k) = closed_judgment 0 []
+judgment_of (local i) = closed_judgment 0 []

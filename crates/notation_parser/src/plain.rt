@@ -1,0 +1,89 @@
+// The test of what is read so far.
+ghost use Rattle.std.specs.Prelude.{◌≡◌, ◌↔◌, IsTrue, None, [], map};
+ghost use Rattle.scheme_terms.specs.View.{known_variable};
+ghost use Rattle.std.specs.List.{AllByRecursion};
+ghost use Rattle.notation_parser.specs.Plain.{IsPlain, IsNoContext};
+ghost use Rattle.rule_schemes.specs.Reading.{not_fresh};
+ghost use Rattle.notation_parser.specs.View.{wanted, reading_scope, freshness_of, scope_words};
+
+use binding_terms::{Cat, CatId, Sig, Text};
+use rule_schemes::{Fresh, Judgment, ReadScope, Want};
+use scheme_terms::{KnownDecl, MetaDecl};
+
+fn no_variables(cats: &[Cat]) -> bool
+    ensures { IsTrue result ↔ AllByRecursion (λ c. c.var ≡ None) cats.now }
+{
+    for cat in cats {
+        if cat.var.is_some() {
+            return false;
+        }
+    }
+    true
+}
+
+fn no_parameters(metas: &[MetaDecl]) -> bool
+    ensures { IsTrue result ↔ AllByRecursion (λ m. m.params ≡ []) metas.now }
+{
+    for meta in metas {
+        if !meta.params.is_empty() {
+            return false;
+        }
+    }
+    true
+}
+
+fn no_contexts(judgments: &[Judgment]) -> bool
+    ensures { IsTrue result ↔ AllByRecursion (λ j. j.ctx ≡ None) judgments.now }
+{
+    for judgment in judgments {
+        if judgment.ctx.is_some() {
+            return false;
+        }
+    }
+    true
+}
+
+fn is_no_context(want: Want) -> bool
+    ensures { IsTrue result ↔ IsNoContext (wanted want) }
+{
+    match want {
+        Want::Term(_) => true,
+        Want::Judgment => true,
+        Want::Context(_) => false,
+    }
+}
+
+fn is_not_fresh(fresh: Fresh) -> bool
+    ensures { IsTrue result ↔ (freshness_of fresh ≡ not_fresh) }
+{
+    match fresh {
+        Fresh::No => true,
+        Fresh::Names => false,
+        Fresh::Head => false,
+    }
+}
+
+fn no_knowns(knowns: &[KnownDecl]) -> bool
+    ensures { IsTrue result ↔ (map known_variable knowns.now ≡ []) }
+{
+    knowns.len() == 0
+}
+
+fn no_words(vars: &[(Text, CatId)]) -> bool
+    ensures { IsTrue result ↔ (scope_words vars.now ≡ []) }
+{
+    vars.len() == 0
+}
+
+/// Whether forms are read here: nothing binds, and neither contexts, variables nor new names stand in them.
+pub fn is_plain(sig: &Sig, judgments: &Vec<Judgment>, scope: &ReadScope, want: Want) -> bool
+    ensures { IsTrue result ↔ IsPlain sig.now judgments.now.items (reading_scope scope.now) (wanted want) }
+{
+    no_variables(sig.cats().as_slice())
+        && no_parameters(scope.scope.metas.as_slice())
+        && no_contexts(judgments.as_slice())
+        && no_knowns(scope.scope.knowns.as_slice())
+        && no_words(scope.vars.as_slice())
+        && is_not_fresh(scope.fresh)
+        && is_no_context(want)
+}
