@@ -1,3 +1,4 @@
 pub mod ClosedForms
 pub mod Made
+pub mod RuleFitting
 pub mod RuleSteps

@@ -69,7 +69,7 @@ knowns_fit inst given [] e = tt
 knowns_fit inst given (k ∷ ks) e = absurd (let no : ⊥ = cc in no)
 
 -- a closed form in a step's context
-form_is : (ctx : SchemeContext) (by : Substitution) (j : JudgmentScheme) → j ≡ closed_form j.judgment j.args →
+pub form_is : (ctx : SchemeContext) (by : Substitution) (j : JudgmentScheme) → j ≡ closed_form j.judgment j.args →
     form_in ctx by j ≡ closed_form j.judgment (map (applied by.metas by.knowns 0) j.args)
 form_is ctx by j e =
     subst (λ (x : JudgmentScheme). form_in ctx by x ≡ closed_form x.judgment (map (applied by.metas by.knowns 0) x.args)) (sym e) refl

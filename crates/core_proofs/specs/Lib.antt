@@ -1,6 +1,8 @@
+pub mod FormEquations
+pub mod Laws
+pub mod Plain
+pub mod Proof
 pub mod RuleStep
 pub mod Step
-pub mod Proof
 pub mod Value
 pub mod View
-pub mod Laws
