@@ -1,4 +1,4 @@
-ghost use Rattle.std.specs.Prelude.{◌≡◌, ◌<◌, ◌^◌, IfOk, length, map};
+ghost use Rattle.std.specs.Prelude.{◌≡◌, IfOk, map};
 ghost use Rattle.scheme_terms.specs.SchemeTree.{values};
 ghost use Rattle.scheme_terms.specs.Substituting.{parameters, metas_from, knowns_from, identity};
 ghost use Rattle.scheme_terms.specs.View.{scheme, known_variable, names, substitution};
@@ -8,6 +8,15 @@ use crate::scheme::{KnownDecl, MetaDecl, MetaId, Scheme, Scope, Subst};
 use binding_terms::NoMemory;
 use sqlite_items::Items;
 use std::alloc::Global;
+
+fn id(number: usize) -> Result<u32, NoMemory>
+    ensures { IfOk result (λ id. id ≡ number) }
+{
+    if number > u32::MAX as usize {
+        return Err(NoMemory);
+    }
+    Ok(number as u32)
+}
 
 fn make_parameters(alloc: Global, count: usize) -> Result<Items<Scheme>, NoMemory>
     ensures { IfOk result (λ all. map scheme all ≡ parameters count) }
@@ -22,32 +31,28 @@ fn make_parameters(alloc: Global, count: usize) -> Result<Items<Scheme>, NoMemor
 }
 
 fn make_metas(alloc: Global, decls: &[MetaDecl]) -> Result<Items<Scheme>, NoMemory>
-    requires { length decls.now < 2 ^ 32 }
     ensures { IfOk result (λ all. map scheme all ≡ metas_from 0 decls.now) }
 {
     let mut all = Items::new(alloc);
     for number in 0..decls.len() {
         let args = make_parameters(alloc, decls[number].params.len())?;
-        all.push(Scheme::Meta(MetaId(number as u32), args))?;
+        all.push(Scheme::Meta(MetaId(id(number)?), args))?;
     }
     Ok(all)
 }
 
 fn make_knowns(alloc: Global, decls: &[KnownDecl]) -> Result<Items<u32>, NoMemory>
-    requires { length decls.now < 2 ^ 32 }
     ensures { IfOk result (λ all. all ≡ knowns_from 0 (map known_variable decls.now)) }
 {
     let mut all = Items::new(alloc);
     for number in 0..decls.len() {
-        all.push(number as u32)?;
+        all.push(id(number)?)?;
     }
     Ok(all)
 }
 
-/// The substitution of a scope into itself that changes nothing.
+/// The substitution of a scope into itself that changes nothing. `NoMemory` also where a name's number would pass `u32::MAX`.
 pub fn identity_of(alloc: Global, scope: &Scope) -> Result<Subst, NoMemory>
-    requires metas { length scope.now.metas < 2 ^ 32 }
-    requires knowns { length scope.now.knowns < 2 ^ 32 }
     ensures { IfOk result (λ new. substitution new ≡ identity (names scope.now)) }
 {
     Ok(Subst {

@@ -1,6 +1,18 @@
-//! What instances and substitutions keep, and how one goes after another. The functions do nothing: their contracts are the laws.
+//! What instances and substitutions keep, and how one goes after another. Most functions here do nothing, since their contracts
+//! are the laws; the last two run the calls.
 
+ghost use Rattle.std.specs.Prelude.{◌≡◌, IfOk};
+ghost use Rattle.std.specs.List.{AllByRecursion};
+ghost use Rattle.binding_terms.specs.View.{tree};
+ghost use Rattle.scheme_terms.specs.Substituting.{followed, Suits, IsSaturated};
+ghost use Rattle.scheme_terms.specs.View.{scheme, substitution, instance as view};
 ghost use Rattle.scheme_terms.specs.Laws.{InstanceOfApplied, InstanceOfAppliedScheme, InstanceKeepsScope, InstanceKeepsScopeOfMetas, StrictAgreement, StrictAgreementInScope, AppliedAnywhere, AppliedRaised, AppliedTwice, ShiftKeepsScheme, ApplyKeepsScope, AppliedTwiceInScope, ComposedIsSubstitution, FollowedFits, InstanceRaised, SubstitutionsAgree, InstancesAgree, IdentityChangesNothing, IdentityKeepsSchemes, IdentityIsSubstitution};
+
+use crate::instantiate::instance;
+use crate::scheme::{Inst, MetaDecl, Scheme, Subst};
+use crate::substitute::{apply, compose};
+use binding_terms::{NoMemory, Term};
+use std::alloc::Global;
 
 /// The instance of a scheme in which schemes were put in.
 #[tactic(auto, using(crate::proofs::Followed::instance_of_applied, crate::proofs::Followed::instance_of_applied_scheme))]
@@ -81,3 +93,42 @@ pub fn identity_changes_nothing()
     ensures in_scope { IdentityKeepsSchemes }
     ensures keeps_scope { IdentityIsSubstitution }
 {}
+
+/// Puts schemes in by one substitution after another, and by their composition. The two are the same where each name has a value.
+pub fn apply_both_ways(
+    alloc: Global,
+    s: &Scheme,
+    first: &Subst,
+    after: &Subst,
+) -> Result<(Scheme, Scheme), NoMemory>
+    ensures { Suits (substitution first.now).metas (substitution first.now).knowns (scheme s.now) →
+        AllByRecursion (Suits (substitution after.now).metas (substitution after.now).knowns) (substitution first.now).metas →
+        IfOk result (λ both. scheme both.0 ≡ scheme both.1) }
+{
+    let once = apply(alloc, s, first)?;
+    let left = apply(alloc, &once, after)?;
+    let both = compose(alloc, first, after)?;
+    let right = apply(alloc, s, &both)?;
+    Ok((left, right))
+}
+
+/// The instance of what a substitution makes of a scheme, and the scheme's instance under the substitution followed by the
+/// instance. The two are the same where each name has a value.
+pub fn instance_both_ways(
+    alloc: Global,
+    s: &Scheme,
+    locals: usize,
+    metas: &[MetaDecl],
+    by: &Subst,
+    inst: &Inst,
+    followed_by: &Inst,
+) -> Result<(Term, Term), NoMemory>
+    ensures { IsSaturated metas.now (scheme s.now) → Suits (substitution by.now).metas (substitution by.now).knowns (scheme s.now) →
+        view followed_by.now ≡ followed metas.now (substitution by.now) (view inst.now) →
+        IfOk result (λ both. tree both.0 ≡ tree both.1) }
+{
+    let put = apply(alloc, s, by)?;
+    let left = instance(alloc, &put, locals, inst)?;
+    let right = instance(alloc, s, locals, followed_by)?;
+    Ok((left, right))
+}
