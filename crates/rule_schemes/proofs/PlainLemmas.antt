@@ -1,9 +1,9 @@
 -- Over a theory without contexts a rule has a good conclusion, each premise may stand in it, and it is no assumption rule.
-use Rattle.std.proofs.Common.{◌≡◌, ◌↔◌, ℕ, zero, suc, ◌+◌, List, [], ◌∷◌, ◌++◌, ◌∙◌, length, inl, inr, refl, ap, subst, sym, true≢false, arith}
+use Rattle.std.proofs.Common.{◌≡◌, ℕ, zero, suc, List, [], ◌∷◌, ◌++◌, ◌∙◌, inl, inr, refl, ap, subst, sym, true≢false}
 use Rattle.std.specs.Prelude.{Option, Some, None, true, false, slice_get, MatchOption, count_by, ◌==◌}
 use Rattle.std.proofs.lemmas.List.{append-nil}
 use Rattle.std.specs.List.{AllByRecursion}
-use Rattle.binding_terms.specs.Numbered.{AnyByRecursion, AllNumbered, AreDifferent}
+use Rattle.binding_terms.specs.Numbered.{AnyByRecursion, AreDifferent}
 use Rattle.binding_terms.specs.Signature.{Signature, IsContext, slots}
 use Rattle.binding_terms.specs.declared.grammar.Cat.{Cat}
 use Rattle.binding_terms.specs.declared.grammar.CatId.{CatId}
@@ -11,10 +11,9 @@ use Rattle.scheme_terms.specs.Forms.{SchemeEntry, SchemeContext}
 use Rattle.scheme_terms.specs.SchemeScope.{IsSchemeContext}
 use Rattle.scheme_terms.specs.declared.scheme.Root.{Root}
 use Rattle.scheme_terms.specs.declared.scheme.Root.TheVariants.{Closed, Empty, Whole}
-use Rattle.rule_schemes.specs.declared.rule.Judgment.{Judgment}
-use Rattle.rule_schemes.specs.Rules.{JudgmentScheme, Rule, Theory, JudgmentFits, IsRootOf, IsBareName, IsBare, HasForms, RuleFits, HasGoodConclusion, MayStand, NeedsNoContext, IsSystemSoFar, IsSystem, assumed_by, assumed, rule_names}
-use Rattle.rule_schemes.specs.Plain.{IsPlainSignature, HasPlainNames, IsPlainTheory, IsPlainSystem}
-use Rattle.rule_schemes.specs.Refused.{IsFirstMisplaced, with_rule, AssumeAlike, AllStrict}
+use Rattle.rule_schemes.specs.Rules.{JudgmentScheme, Rule, Theory, JudgmentFits, IsRootOf, IsBareName, HasForms, RuleFits, HasGoodConclusion, MayStand, IsSystem, assumed_by, assumed, rule_names}
+use Rattle.rule_schemes.specs.Plain.{IsPlainSignature, HasPlainNames, IsPlainSystem}
+use Rattle.rule_schemes.specs.Refused.{IsFirstMisplaced, with_rule, AssumeAlike}
 
 pub AllByRecursion-map : {A : Type 0} {P Q : A → Type 0} → ((x : A) → P x → Q x) → (xs : List A) → AllByRecursion P xs → AllByRecursion Q xs
 AllByRecursion-map f [] all = tt
@@ -41,7 +40,7 @@ pub record IsClosedForm (context : SchemeContext) : Type 0 where
   pub root : context.root ≡ Closed
   pub entries : context.entries ≡ []
 
-found : {A : Type 0} {P Q : A → Type 0} → (xs : List A) (n : ℕ) → AllByRecursion P xs → MatchOption (slice_get xs n) ⊥ Q → (x : A) × P x × Q x
+pub found : {A : Type 0} {P Q : A → Type 0} → (xs : List A) (n : ℕ) → AllByRecursion P xs → MatchOption (slice_get xs n) ⊥ Q → (x : A) × P x × Q x
 found [] n all h = absurd h
 found (x ∷ xs) zero all h = (x, all.0, h)
 found (x ∷ xs) (suc n) all h = found xs n all.1 h
@@ -57,7 +56,7 @@ closed_form th r plain fit forms =
     let form = found th.judgments r.conclusion.judgment fit forms.conclusion in
     let none : form.0.ctx ≡ None = no_context_assumed th.sig (λ c. count_by (λ slot. slot.cat == c.0) (slots form.0.items) ≡ 1) form.0.ctx plain form.1.assumed in
     let root : r.conclusion.context.root ≡ Closed =
-        is_closed r.conclusion.context.root (subst (λ (ctx : Option CatId). IsRootOf ctx r.conclusion.context.root) none form.2.0) in
+    is_closed r.conclusion.context.root (subst (λ (ctx : Option CatId). IsRootOf ctx r.conclusion.context.root) none form.2.0) in
     record {
       root = root;
       entries = subst (λ (x : Root). IsSchemeContext th.sig (rule_names r) (record { root = x; entries = r.conclusion.context.entries })) root form.2.1;

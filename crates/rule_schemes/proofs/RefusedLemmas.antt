@@ -1,6 +1,6 @@
 -- Which fault a rule is refused with.
-use Rattle.std.proofs.Common.{◌≡◌, ◌↔◌, ℕ, List, [], ◌∷◌, ◌++◌, map, ◌∙◌, inl, inr, refl, ap, sym, subst}
-use Rattle.std.specs.Prelude.{Result, Ok, Err, IsErrOf}
+use Rattle.std.proofs.Common.{◌≡◌, ◌↔◌, List, [], ◌∷◌, ◌++◌, map, ◌∙◌, ap, sym, subst}
+use Rattle.std.specs.Prelude.{Err, IsErrOf}
 use Rattle.std.proofs.lemmas.List.{map-append}
 use Rattle.scheme_terms.specs.declared.scheme.MetaId.{MetaId}
 use Rattle.rule_schemes.specs.declared.rule.RuleId.{RuleId}

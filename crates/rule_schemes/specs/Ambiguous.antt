@@ -1,18 +1,12 @@
 -- The grammar `e ::= e + e | a` and the form `a + a + a`, by which the definition of readings is tried.
-use Rattle.std.proofs.Common.{◌≡◌, ◌≢◌, ℕ, zero, suc, ◌<◌, ◌≤◌, ◌∙◌, subst, length-append, List, [], ◌∷◌, ◌++◌, length, inl, inr, refl, ap, sym, arith}
-use Rattle.std.specs.Prelude.{false, Option, Some, None, codes, slice_index_or, slice_get, is_some, if◌then◌else◌}
+use Rattle.std.proofs.Common.{ℕ, List, [], ◌∷◌}
+use Rattle.std.specs.Prelude.{false, None, codes}
 use Rattle.binding_terms.specs.Signature.{Signature}
-use Rattle.binding_terms.specs.declared.grammar.CatId.{CatId}
 use Rattle.binding_terms.specs.declared.grammar.Item.{Item}
-use Rattle.binding_terms.specs.declared.grammar.Prod.{Prod}
-use Rattle.binding_terms.specs.declared.grammar.Item.TheVariants.{Word, Slot, Binder}
-use Rattle.scheme_terms.specs.SchemeTree.{SchemeTree, meta, local, con, no_values, value, Parts, no_parts, part}
-use Rattle.scheme_terms.specs.Forms.{KnownVariable}
-use Rattle.scheme_terms.specs.declared.scheme.MetaDecl.{MetaDecl}
-use Rattle.scheme_terms.specs.declared.scheme.Root.TheVariants.{Whole, Closed}
-use Rattle.rule_schemes.specs.Reading.{Token, word, punctuation, Variable, ReadsTerm, ReadsItems, group, metavariable, variable, production, no_brackets, brackets, last_one, all_read, terminal, binder, slot, Fresh, fresh_names, not_fresh, ReadingScope, root, entry, form_end, form_terminal, form_context, form_slot, ReadsJudgment, with_context, IsTerminal}
-use Rattle.rule_schemes.specs.NewNames.{FirstTells, at_end, no_bracket, open_bracket, comma, close_bracket}
-use Rattle.rule_schemes.specs.Said.{way_of_term, IsBefore, Want, want_term, Written, a_term, Said, ReadsWanted, reads_term, reads_judgment, reads_context, Reads, ReadsAs, HasOneReading}
+use Rattle.binding_terms.specs.declared.grammar.Item.TheVariants.{Word, Slot}
+use Rattle.scheme_terms.specs.SchemeTree.{SchemeTree, con, no_parts, part}
+use Rattle.scheme_terms.specs.declared.scheme.Root.TheVariants.{Closed}
+use Rattle.rule_schemes.specs.Reading.{Token, word, ReadsTerm, not_fresh, ReadingScope}
 use Rattle.rule_schemes.specs.Sums.{cat}
 
 abbrev pub symbol : List ℕ → Token

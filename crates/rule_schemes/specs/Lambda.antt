@@ -1,8 +1,8 @@
 -- The typed lambda calculus as a theory, and derivations over it, by which the definitions are tried.
-use Rattle.std.proofs.Common.{◌≡◌, ℕ, List, [], ◌∷◌, length, inl, inr, refl, ap, sym, subst, arith}
-use Rattle.std.specs.Prelude.{true, false, Some, None, codes, slice_index_or}
+use Rattle.std.proofs.Common.{ℕ, List, [], ◌∷◌}
+use Rattle.std.specs.Prelude.{true, false, Some, None, codes}
 use Rattle.binding_terms.specs.Tree.{Tree, var, con, no_args, arg}
-use Rattle.binding_terms.specs.Signature.{Signature, Fits, HasSlot, Reaches, itself, through_slot}
+use Rattle.binding_terms.specs.Signature.{Signature}
 use Rattle.binding_terms.specs.declared.grammar.Item.{Item}
 use Rattle.binding_terms.specs.declared.grammar.Item.TheVariants.{Word, Slot, Binder}
 use Rattle.scheme_terms.specs.SchemeTree as schemes
@@ -11,8 +11,8 @@ use Rattle.scheme_terms.specs.Forms.{SchemeContext, ContextValue, GroundEntry}
 use Rattle.scheme_terms.specs.declared.scheme.MetaDecl.{MetaDecl}
 use Rattle.scheme_terms.specs.declared.scheme.Root.TheVariants.{Whole}
 use Rattle.rule_schemes.specs.declared.rule.Judgment.{Judgment}
-use Rattle.rule_schemes.specs.Rules.{JudgmentValue, Rule, Theory, JudgmentFits, RuleFits, IsSystem}
-use Rattle.rule_schemes.specs.Derivation.{Derivation, node, leaf, no_more, subtree, Derives}
+use Rattle.rule_schemes.specs.Rules.{JudgmentValue, Rule, Theory}
+use Rattle.rule_schemes.specs.Derivation.{Derivation, node, leaf, no_more, subtree}
 use Rattle.rule_schemes.specs.Sums.{cat}
 
 abbrev pub T_slot : Item

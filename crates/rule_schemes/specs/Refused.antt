@@ -1,7 +1,6 @@
 -- Why a rule is refused. Held against the rules of the profile on assumption rules, ordinary rules and judgments without a
 -- context.
 use Rattle.std.specs.Prelude.{◌≡◌, ◌⊎◌, ℕ, suc, List, [], ◌∷◌, ◌++◌, slice_get, MatchOption}
-use Rattle.std.specs.List.{AllByRecursion}
 use Rattle.binding_terms.specs.Numbered.{AnyByRecursion, AllNumbered}
 use Rattle.scheme_terms.specs.declared.scheme.MetaDecl.{MetaDecl}
 use Rattle.rule_schemes.specs.declared.fault.RuleFault.{RuleFault}

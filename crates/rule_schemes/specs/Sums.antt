@@ -1,7 +1,7 @@
 -- The theory of sums over natural numbers, and derivations over it, by which the definitions are tried.
-use Rattle.std.proofs.Common.{◌≡◌, ℕ, List, [], ◌∷◌, refl, ap, ◌∙◌, sym, arith}
-use Rattle.std.specs.Prelude.{false, Some, None, codes, slice_index_or}
-use Rattle.binding_terms.specs.Tree.{Tree, var, con, no_args, arg, nodes}
+use Rattle.std.proofs.Common.{ℕ, List, [], ◌∷◌}
+use Rattle.std.specs.Prelude.{false, None, codes}
+use Rattle.binding_terms.specs.Tree.{Tree, con, no_args, arg}
 use Rattle.binding_terms.specs.Signature.{Signature}
 use Rattle.binding_terms.specs.declared.grammar.CatId.{CatId}
 use Rattle.binding_terms.specs.declared.grammar.Item.{Item}
@@ -13,7 +13,7 @@ use Rattle.scheme_terms.specs.declared.scheme.MetaDecl.{MetaDecl}
 use Rattle.scheme_terms.specs.declared.scheme.Root.TheVariants.{Closed}
 use Rattle.rule_schemes.specs.declared.rule.Judgment.{Judgment}
 use Rattle.rule_schemes.specs.Rules.{JudgmentScheme, JudgmentValue, Rule, Theory}
-use Rattle.rule_schemes.specs.Derivation.{Derivation, node, no_more, subtree, Derives}
+use Rattle.rule_schemes.specs.Derivation.{Derivation, node, no_more, subtree}
 
 abbrev pub cat : ℕ → CatId
 cat n = record { 0 = n }

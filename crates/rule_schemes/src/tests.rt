@@ -23,18 +23,16 @@ fn one_judgment(alloc: Global) -> Result<System, NoMemory>
 }
 
 fn axiom(alloc: Global, metas: Items<MetaDecl>) -> RuleScheme
-    ensures {
-        result ≡ record {
-            name = [];
-            metas = metas;
-            premises = [];
-            conclusion = record {
-                judgment = record { 0 = 0 };
-                ctx = record { root = Closed; entries = [] };
-                args = [];
-            };
-        }
-    }
+    ensures { result ≡ record {
+      name = [];
+      metas = metas;
+      premises = [];
+      conclusion = record {
+        judgment = record { 0 = 0 };
+        ctx = record { root = Closed; entries = [] };
+        args = [];
+      };
+    } }
 {
     RuleScheme {
         name: Text::new(alloc),

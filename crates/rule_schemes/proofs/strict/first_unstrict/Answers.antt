@@ -8,7 +8,7 @@ pub returns-then-not-strict_in_rule-clause-some : goal.returns-then-not-strict_i
 returns-then-not-strict_in_rule-clause-some c =
     let within : c.loop-i.i < length c.args.r.now.metas = omega arith in
     let not_strict : StrictInRule (rule c.args.r.now) c.loop-i.i → ⊥ =
-        λ s. absurd (true≢false (sym (c.strict_in_rule.ensures.1 s) ∙ c.if-not-strict_in_rule.true)) in
+    λ s. absurd (true≢false (sym (c.strict_in_rule.ensures.1 s) ∙ c.if-not-strict_in_rule.true)) in
     c.loop-i.invariant.first _ (first_here (rule c.args.r.now) _ _ within not_strict)
 
 pub loop-i-preserved : goal.loop-i-preserved

@@ -1,11 +1,10 @@
-use Rattle.std.proofs.Common.{◌≡◌, ◌∷◌, [], ◌++◌, map, subst, sym, ap, ◌∙◌}
-use Rattle.std.proofs.lemmas.List.{map-append}
+use Rattle.std.proofs.Common.{◌≡◌, subst, sym, ap, ◌∙◌}
 use Rattle.std.proofs.lemmas.Result.{err_from_is_err_and}
 use Rattle.std.specs.Prelude.{Err}
 use Rattle.rule_schemes.specs.declared.fault.RuleFault.{RuleFault}
 use Rattle.rule_schemes.specs.declared.fault.RuleFault.TheVariants.{NoMemory}
 use Rattle.rule_schemes.specs.Parts.{Parts}
-use Rattle.rule_schemes.specs.Rules.{RuleFits, HasForms}
+use Rattle.rule_schemes.specs.Rules.{HasForms}
 use Rattle.rule_schemes.specs.Plain.{IsPlainSystem}
 use Rattle.rule_schemes.specs.Refused.{AllStrict}
 use Rattle.rule_schemes.specs.View.{theory, rule}
