@@ -8,8 +8,10 @@ mod page;
 mod same;
 mod term;
 mod words;
+mod worked;
+#[cfg(test)]
+mod tests;
 
 pub use derivation::print_derivs;
 pub use judgment::print_judgment;
-pub use page::Page;
-pub use words::Variable;
+pub use worked::{binders_are_written, contexts_are_written, sums_are_written};
