@@ -7,10 +7,10 @@ mod judgment;
 mod page;
 mod same;
 mod term;
-mod words;
-mod worked;
 #[cfg(test)]
 mod tests;
+mod words;
+mod worked;
 
 pub use derivation::print_derivs;
 pub use judgment::print_judgment;

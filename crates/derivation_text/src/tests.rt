@@ -23,9 +23,7 @@ fn text(alloc: Global, bytes: &[u8]) -> Result<Text, NoMemory>
 
 /// A system with the judgment `ok` and no rule.
 fn one_judgment(alloc: Global) -> Result<System, NoMemory>
-    ensures {
-        IfOk result (λ s. s.judgments ≡ record { name = []; ctx = None; items = Word (codes "ok") false ∷ [] } ∷ [])
-    }
+    ensures { IfOk result (λ s. s.judgments ≡ record { name = []; ctx = None; items = Word (codes "ok") false ∷ [] } ∷ []) }
 {
     let mut items = Vec::new(alloc);
     items.push(Item::Word {
@@ -79,7 +77,8 @@ fn derivations_are_printed(rt: HostRuntime) -> Result<(), Fail> {
     derivs.push(Deriv::node(alloc, RuleId(0), ok(alloc), premises)?)?;
     derivs.push(one)?;
     let printed = print_derivs(alloc, &system, None, &derivs)?;
-    let wanted = b"d1: ok by rule r\nd2: ok by rule r\nd3: ok by rule r on d1, d2\nd4: ok by rule r\ngives d3, d4\n";
+    let wanted =
+        b"d1: ok by rule r\nd2: ok by rule r\nd3: ok by rule r on d1, d2\nd4: ok by rule r\ngives d3, d4\n";
     assert_eq!(rt; printed.bytes(), wanted.as_slice());
     let judgment = print_judgment(alloc, &system, &ok(alloc))?;
     assert_eq!(rt; judgment.bytes(), b"ok".as_slice());
@@ -142,12 +141,25 @@ fn terms_are_written(rt: HostRuntime) -> Result<(), Fail> {
     assert!(rt; Sig::fits(&cats, &prods));
     let sig = Sig::make(alloc, cats, prods)?;
     let constant = Term::Con(ProdId(0), ArgList::make(alloc, Vec::new(alloc))?);
-    let pair = node(alloc, 1, [
-        Arg { binds: 0, body: Term::Var(0) },
-        Arg { binds: 0, body: constant },
-    ])?;
+    let pair = node(
+        alloc,
+        1,
+        [
+            Arg {
+                binds: 0,
+                body: Term::Var(0),
+            },
+            Arg {
+                binds: 0,
+                body: constant,
+            },
+        ],
+    )?;
     let mut body = Vec::new(alloc);
-    body.push(Arg { binds: 1, body: pair })?;
+    body.push(Arg {
+        binds: 1,
+        body: pair,
+    })?;
     let function = Term::Con(ProdId(2), ArgList::make(alloc, body)?);
     let mut page = Page::new(alloc);
     write_term(&mut page, &sig, &[], &function)?;
