@@ -1,3 +1,4 @@
 pub mod Page
 pub mod Text
 pub mod View
+pub mod Worked
