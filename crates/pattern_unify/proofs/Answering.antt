@@ -1,24 +1,21 @@
 -- The substitution that gives each name what is asked of it is the only one that fits.
-use Rattle.std.proofs.Common.{◌≡◌, ◌↔◌, ◌⊎◌, ℕ, zero, suc, ◌+◌, ◌<◌, ◌≤◌, ◌==◌, nat_eq, ◌||◌, Bool, true, false, List, [], ◌∷◌, ◌++◌, length, map, reverse, Option, Some, None, MatchOption, slice_get, unwrap_or, if◌then◌else◌, inl, inr, refl, ap, ◌∙◌, sym, subst, arith}
-use Rattle.std.specs.List.{AllByRecursion, AllZip}
-use Rattle.std.proofs.lemmas.Bool.Decides.{nat_tests}
-use Rattle.std.proofs.lemmas.Option.{slice_get_within, slice_get_past, slice_get-get_or, unwrap_or-slice_get}
+use Rattle.std.proofs.Common.{◌≡◌, ◌↔◌, ℕ, ◌+◌, true, List, [], ◌∷◌, length, Some, slice_get, inl, inr, ap, ◌∙◌, sym, subst, arith}
+use Rattle.std.specs.List.{AllByRecursion}
 use Rattle.binding_terms.specs.Numbered.{AnyByRecursion, AllNumbered}
 use Rattle.binding_terms.specs.Signature.{Signature}
-use Rattle.scheme_terms.specs.SchemeTree.{SchemeTree, meta, local, no_values, StrictIn}
-use Rattle.scheme_terms.specs.Forms.{Names, Substitution}
-use Rattle.scheme_terms.specs.SchemeScope.{IsScheme, params_scope}
-use Rattle.scheme_terms.specs.Substituting.{scheme_for, applied, IsSubstitution}
+use Rattle.scheme_terms.specs.SchemeTree.{SchemeTree, meta, no_values, StrictIn}
+use Rattle.scheme_terms.specs.Forms.{Names}
+use Rattle.scheme_terms.specs.SchemeScope.{IsScheme}
+use Rattle.scheme_terms.specs.Substituting.{applied}
 use Rattle.scheme_terms.specs.declared.scheme.MetaDecl.{MetaDecl}
 use Rattle.pattern_unify.specs.Equations.{SchemeEquation}
-use Rattle.pattern_unify.specs.Plain.{NothingBinds, AreWithoutBinding, HaveNoParameters}
-use Rattle.pattern_unify.specs.Fit.{AreSides, AreToFit, own_parameters, Stays, Becomes, IsFit, IsOnlyFit}
-use Rattle.pattern_unify.specs.Demands.{is_among, joined, demands, all_demands, first_for, Agree, scheme_at, schemes_from, solution}
-use Rattle.pattern_unify.proofs.Places.{among, among_back, within, numbered, numbered_at, zipped, scheme_for_at, same_lists}
-use Rattle.pattern_unify.proofs.PlainSchemes.{IsPlain, plain_scheme, all_at}
+use Rattle.pattern_unify.specs.Plain.{NothingBinds, HaveNoParameters}
+use Rattle.pattern_unify.specs.Fit.{AreSides, own_parameters, Stays, Becomes}
+use Rattle.pattern_unify.specs.Demands.{is_among, demands, all_demands}
+use Rattle.pattern_unify.proofs.Places.{among, within, numbered_at}
+use Rattle.pattern_unify.proofs.PlainSchemes.{plain_scheme, all_at}
 use Rattle.pattern_unify.proofs.Solving.{Met, met_joined, Keeps, met_demands, Each, each_joined, OfFlexible, of_flexible, Asks, asks_first, asks_later, asks_strict}
 use Rattle.pattern_unify.proofs.Categories.{OfItsCategory, of_category}
-use Rattle.pattern_unify.proofs.Firsts.{first_found, first_so, agree_from_met}
 
 module _ (sig : Signature) (names : Names) (fl : List ℕ) where
   sides_at : (e : SchemeEquation) → e.locals ≡ [] → AreSides sig names e → (c : ℕ) × IsScheme sig names [] c e.left × IsScheme sig names [] c e.right
@@ -48,7 +45,7 @@ module _ (sig : Signature) (names : Names) (fl : List ℕ) where
     met_one ss ks keeps e l h =
         let sides = sides_at e l h in
         let is = met_demands fl ss ks (length names.metas) (length names.metas) keeps e.left e.right
-            (plain_scheme sig names slots_bind metas knowns sides.0 e.left sides.1) (plain_scheme sig names slots_bind metas knowns sides.0 e.right sides.2) in
+        (plain_scheme sig names slots_bind metas knowns sides.0 e.left sides.1) (plain_scheme sig names slots_bind metas knowns sides.0 e.right sides.2) in
         let depth : applied ss ks (length e.locals) e.left ≡ applied ss ks 0 e.left = ap (λ ls. applied ss ks (length ls) e.left) l in
         (λ k. depth ∙ is.0 k, λ k. is.1 (sym depth ∙ k))
 
@@ -68,5 +65,5 @@ module _ (sig : Signature) (names : Names) (fl : List ℕ) where
     keeps_from_stays ss h m below other =
         let decl = within names.metas m below in
         let stays : Stays fl ss m decl.0 =
-            subst (λ k. Stays fl ss k decl.0) (let e : 0 + m ≡ m = omega arith in e) (numbered_at (Stays fl ss) 0 names.metas m decl.0 h decl.1) in
+        subst (λ k. Stays fl ss k decl.0) (let e : 0 + m ≡ m = omega arith in e) (numbered_at (Stays fl ss) 0 names.metas m decl.0 h decl.1) in
         stays (λ k. let yes = among m fl k in cc) ∙ itself_is m decl.0 decl.1

@@ -1,5 +1,5 @@
 -- What is asked of a name is of the name's category.
-use Rattle.std.proofs.Common.{◌≡◌, ℕ, ◌==◌, nat_eq, Bool, true, List, [], ◌∷◌, ◌++◌, length, Option, Some, None, MatchOption, slice_get, if◌then◌else◌, refl, ap, ◌∙◌, sym, subst, arith}
+use Rattle.std.proofs.Common.{◌≡◌, ℕ, ◌==◌, List, [], ◌∷◌, ◌++◌, Option, Some, None, MatchOption, slice_get, if◌then◌else◌, ap, sym, subst, arith}
 use Rattle.std.specs.List.{AllByRecursion}
 use Rattle.std.proofs.lemmas.Bool.Decides.{nat_tests}
 use Rattle.binding_terms.specs.Signature.{Signature, Place, slots, binders}
@@ -8,7 +8,6 @@ use Rattle.binding_terms.specs.declared.grammar.Prod.{Prod}
 use Rattle.scheme_terms.specs.SchemeTree.{SchemeTree, meta, known, local, con, Values, Parts, no_parts, part}
 use Rattle.scheme_terms.specs.Forms.{Names}
 use Rattle.scheme_terms.specs.SchemeScope.{IsScheme, AreSchemeParts}
-use Rattle.scheme_terms.specs.declared.scheme.MetaDecl.{MetaDecl}
 use Rattle.pattern_unify.specs.Plain.{NothingBinds}
 use Rattle.pattern_unify.specs.Demands.{demands, part_demands}
 use Rattle.pattern_unify.proofs.PlainSchemes.{chosen, all_at}
@@ -49,10 +48,10 @@ module _ (sig : Signature) (names into : Names) (slots_bind : NothingBinds sig) 
     of_category c (con p xs) (con q ys) h g =
         each_if (OfItsCategory sig names into) (p == q) (part_demands fl xs ys)
         (λ e. let one = chosen _ _ h in
-            let other = chosen _ _ g in
-            let same : p ≡ q = grind (arith, nat_tests) in
-            of_category_parts (binders one.0.items) (slots one.0.items) xs ys (all_at _ _ _ _ slots_bind one.1) one.2.1
-            (subst (λ prod. AreSchemeParts sig into [] (binders prod.items) (slots prod.items) ys) (same_prod _ _ _ _ _ same one.1 other.1) other.2.1))
+        let other = chosen _ _ g in
+        let same : p ≡ q = grind (arith, nat_tests) in
+        of_category_parts (binders one.0.items) (slots one.0.items) xs ys (all_at _ _ _ _ slots_bind one.1) one.2.1
+        (subst (λ prod. AreSchemeParts sig into [] (binders prod.items) (slots prod.items) ys) (same_prod _ _ _ _ _ same one.1 other.1) other.2.1))
 
     pub of_category_parts : (bs : List ℕ) (ss : List Place) (xs ys : Parts) → AllByRecursion (λ s. s.binds ≡ []) ss →
         AreSchemeParts sig names [] bs ss xs → AreSchemeParts sig into [] bs ss ys → Each (OfItsCategory sig names into) (part_demands fl xs ys)
@@ -62,7 +61,7 @@ module _ (sig : Signature) (names into : Names) (slots_bind : NothingBinds sig) 
     of_category_parts bs [] (part m s xs) (part n t ys) b h g = absurd h
     of_category_parts bs (slot ∷ ss) (part m s xs) (part n t ys) b h g =
         let outside : (ns : Names) (u : SchemeTree) → IsScheme sig ns (bound bs slot.binds ++ []) slot.cat u → IsScheme sig ns [] slot.cat u
-            = λ ns u k. subst (λ ms. IsScheme sig ns (bound bs ms ++ []) slot.cat u) b.0 k in
+        = λ ns u k. subst (λ ms. IsScheme sig ns (bound bs ms ++ []) slot.cat u) b.0 k in
         each_joined (OfItsCategory sig names into) (if m == n then demands fl s t else None) (part_demands fl xs ys)
         (each_if (OfItsCategory sig names into) (m == n) (demands fl s t) (λ _. of_category slot.cat s t (outside names s h.1) (outside into t g.1)))
         (of_category_parts bs ss xs ys b.1 h.2 g.2)

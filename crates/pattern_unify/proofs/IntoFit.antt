@@ -1,10 +1,10 @@
 -- The substitution of one scope by schemes of another that gives each name what is asked of it is the only one that fits.
-use Rattle.std.proofs.Common.{◌≡◌, ◌↔◌, ◌⊎◌, ℕ, zero, suc, ◌+◌, ◌<◌, ◌≤◌, Bool, true, false, List, [], ◌∷◌, ◌++◌, length, map, reverse, Option, Some, None, MatchOption, slice_get, inl, inr, refl, ap, ◌∙◌, sym, subst, arith}
-use Rattle.std.specs.List.{AllByRecursion, AllZip}
+use Rattle.std.proofs.Common.{◌≡◌, ◌↔◌, ◌⊎◌, ℕ, zero, suc, ◌+◌, ◌<◌, ◌≤◌, true, List, [], ◌∷◌, ◌++◌, length, map, reverse, Option, Some, None, MatchOption, slice_get, inl, inr, refl, ap, ◌∙◌, sym, subst, arith}
+use Rattle.std.specs.List.{AllByRecursion}
 use Rattle.std.proofs.lemmas.Bool.{cases_lt, cases_eq}
 use Rattle.std.proofs.lemmas.Option.{slice_get_within, slice_get_past}
 use Rattle.std.proofs.lemmas.Slice.Zip.{AllZip-long}
-use Rattle.binding_terms.specs.Numbered.{AnyByRecursion, AllNumbered}
+use Rattle.binding_terms.specs.Numbered.{AnyByRecursion}
 use Rattle.binding_terms.specs.Signature.{Signature}
 use Rattle.scheme_terms.specs.SchemeTree.{SchemeTree, StrictIn}
 use Rattle.scheme_terms.specs.Forms.{Names, Substitution}
@@ -51,8 +51,8 @@ module _ (sig : Signature) (from into : Names) (eqs : List SchemeEquation)
   met_one ss ks e l h =
       let sides = sides_at e l h in
       let is = met_demands (up_to (length from.metas)) ss ks (length from.metas) (length into.metas) (keeps_none ss) e.left e.right
-          (plain_scheme sig from plain.slots plain.metas plain.knowns sides.0 e.left sides.1)
-          (plain_scheme sig into plain.slots plain.into_metas plain.into_knowns sides.0 e.right sides.2) in
+      (plain_scheme sig from plain.slots plain.metas plain.knowns sides.0 e.left sides.1)
+      (plain_scheme sig into plain.slots plain.into_metas plain.into_knowns sides.0 e.right sides.2) in
       let depth : applied ss ks (length e.locals) e.left ≡ applied ss ks 0 e.left = ap (λ ls. applied ss ks (length ls) e.left) l in
       (λ k. depth ∙ is.0 k, λ k. is.1 (sym depth ∙ k))
 
@@ -91,8 +91,8 @@ module _ (sig : Signature) (from into : Names) (eqs : List SchemeEquation)
     strict_at m below =
         let decl = within from.metas m below in
         let places : AnyByRecursion (λ e. StrictIn m e.left) eqs =
-            subst (λ k. AnyByRecursion (λ e. StrictIn k e.left) eqs) (let e : 0 + m ≡ m = omega arith in e)
-            (numbered_at (λ k d. AnyByRecursion (λ e. StrictIn k e.left) eqs) 0 from.metas m decl.0 asked.strict decl.1) in
+        subst (λ k. AnyByRecursion (λ e. StrictIn k e.left) eqs) (let e : 0 + m ≡ m = omega arith in e)
+        (numbered_at (λ k d. AnyByRecursion (λ e. StrictIn k e.left) eqs) 0 from.metas m decl.0 asked.strict decl.1) in
         first_found m ds (subst (Asks m) is (asks_all sig from (up_to (length from.metas)) m (among_all m (length from.metas) below) eqs places))
 
     same_at : (other : Substitution) → IsFitInto sig from into eqs other → (m : ℕ) → m < length from.metas → scheme_for other.metas m ≡ scheme_at ds m
@@ -147,8 +147,8 @@ module _ (sig : Signature) (from into : Names) (eqs : List SchemeEquation)
         let none : decl.params ≡ [] = all_at (λ d. d.params ≡ []) from.metas k decl plain.metas e in
         let found = strict_at k (slice_get_within from.metas k decl e) in
         let own : IsScheme sig into [] decl.cat.0 found.0 =
-            subst (λ o. MatchOption o ⊥ (λ d. IsScheme sig into [] d.cat.0 found.0)) e
-            (first_so (λ m t. OfItsCategory sig from into (m, t)) k found.0 ds of_category_ones found.1) in
+        subst (λ o. MatchOption o ⊥ (λ d. IsScheme sig into [] d.cat.0 found.0)) e
+        (first_so (λ m t. OfItsCategory sig from into (m, t)) k found.0 ds of_category_ones found.1) in
         subst (λ ps. IsScheme sig into (reverse (map (λ c. c.0) ps)) decl.cat.0 (scheme_at ds k)) (sym none)
         (subst (IsScheme sig into [] decl.cat.0) (sym (scheme_at-first ds k found.0 found.1)) own)
 
@@ -167,7 +167,8 @@ module _ (sig : Signature) (from into : Names) (eqs : List SchemeEquation)
         equal = (met_all (schemes_from ds 0 from.metas) [] eqs plain.locals asked.sides).0
             (subst (Met (schemes_from ds 0 from.metas)) (sym is) (met_by_solution ds of_category_ones agree));
       },
-      only_one)
+      only_one,
+    )
 
 -- the numbers of one name more
 pub up_to-more : (n : ℕ) → up_to n ++ n ∷ [] ≡ up_to (n + 1)

@@ -1,7 +1,6 @@
 -- Demands put together.
-use Rattle.std.proofs.Common.{◌≡◌, ℕ, ◌<◌, Bool, true, false, ◌+◌, List, [], ◌∷◌, ◌++◌, length, get_or, map, drop, Option, Some, None, refl, ap, ◌∙◌, sym, append_assoc, arith}
+use Rattle.std.proofs.Common.{◌≡◌, ℕ, ◌<◌, Bool, true, false, ◌+◌, List, [], ◌∷◌, length, get_or, drop, Option, Some, None, refl, ap, ◌∙◌, sym, append_assoc, arith}
 use Rattle.std.proofs.lemmas.List.{drop_more, append-nil}
-use Rattle.scheme_terms.specs.SchemeTree.{SchemeTree}
 use Rattle.scheme_terms.specs.View.{scheme_part, scheme_parts}
 use Rattle.scheme_terms.specs.declared.scheme.SArg.{SArg}
 use Rattle.pattern_unify.specs.Demands.{joined, unless_clash, test, part_demands, at_part}

@@ -13,12 +13,12 @@ use Rattle.scheme_terms.specs.Substituting.{scheme_for, IsSubstitution, IsKnownV
 use Rattle.scheme_terms.specs.declared.scheme.MetaDecl.{MetaDecl}
 use Rattle.pattern_unify.specs.Equations.{SchemeEquation}
 use Rattle.pattern_unify.specs.Plain.{AreWithoutBinding}
-use Rattle.pattern_unify.specs.Fit.{AreToFit, own_parameters, Stays, Becomes, IsFit, IsOnlyFit}
+use Rattle.pattern_unify.specs.Fit.{AreToFit, Stays, IsFit, IsOnlyFit}
 use Rattle.pattern_unify.specs.Demands.{is_among, all_demands, first_for, Agree, scheme_at, schemes_from, solution}
 use Rattle.pattern_unify.proofs.Answering.{of_flexible_all, asks_all, of_category_all, met_all, itself_is, keeps_from_stays}
-use Rattle.pattern_unify.proofs.Places.{among, among_back, numbered, zipped, scheme_for_at, same_lists}
+use Rattle.pattern_unify.proofs.Places.{among_back, numbered, zipped, scheme_for_at, same_lists}
 use Rattle.pattern_unify.proofs.PlainSchemes.{all_at}
-use Rattle.pattern_unify.proofs.Solving.{Met, Each, OfFlexible, Asks, Keeps}
+use Rattle.pattern_unify.proofs.Solving.{Met, Each, OfFlexible, Asks}
 use Rattle.pattern_unify.proofs.Categories.{OfItsCategory}
 use Rattle.pattern_unify.proofs.Firsts.{first_found, first_so, agree_from_met}
 
@@ -52,7 +52,7 @@ module _ (sig : Signature) (names : Names) (fl : List ℕ) (eqs : List SchemeEqu
   met_by : (by : Substitution) → IsFit sig names fl eqs by → Met by.metas (all_demands fl eqs)
   met_by by fit =
       (met_all sig names fl plain.slots plain.metas plain.knowns by.metas by.knowns
-          (keeps_from_stays sig names fl plain.slots plain.metas plain.knowns by.metas fit.metas) eqs plain.locals asked.sides).1 fit.equal
+      (keeps_from_stays sig names fl plain.slots plain.metas plain.knowns by.metas fit.metas) eqs plain.locals asked.sides).1 fit.equal
 
   pub none_fits : all_demands fl eqs ≡ None → IsOnlyFit sig names fl eqs None
   none_fits e by fit = subst (Met by.metas) e (met_by by fit)
@@ -71,7 +71,7 @@ module _ (sig : Signature) (names : Names) (fl : List ℕ) (eqs : List SchemeEqu
     stays_at : (m : ℕ) → is_among m fl ≡ false → scheme_at ds m ≡ meta m no_values
     stays_at m other =
         elim (asked_or_itself ds m) [
-          inl found ↦ (let yes : is_among m fl ≡ true = first_so (λ k t. is_among k fl ≡ true) m found.0 ds flexible_ones found.1 in cc)
+          | inl found ↦ (let yes : is_among m fl ≡ true = first_so (λ k t. is_among k fl ≡ true) m found.0 ds flexible_ones found.1 in cc)
           | inr e ↦ e
         ]
 
@@ -151,14 +151,14 @@ module _ (sig : Signature) (names : Names) (fl : List ℕ) (eqs : List SchemeEqu
     scheme_here k decl e =
         let none : decl.params ≡ [] = all_at (λ d. d.params ≡ []) names.metas k decl plain.metas e in
         let own : IsScheme sig names [] decl.cat.0 (scheme_at ds k)
-            = elim (asked_or_itself ds k) [
-              inl found ↦ subst (IsScheme sig names [] decl.cat.0) (sym found.2)
-                  (subst (λ o. MatchOption o ⊥ (λ d. IsScheme sig names [] d.cat.0 found.0)) e
-                      (first_so (λ m t. OfItsCategory sig names names (m, t)) k found.0 ds of_category_ones found.1))
-              | inr itself ↦ subst (IsScheme sig names [] decl.cat.0) (sym itself)
-                  (subst (λ o. MatchOption o ⊥ (λ d. (d.cat.0 ≡ decl.cat.0) × AreValues sig names [] (map (λ p. p.0) d.params) no_values)) (sym e)
-                      (refl, subst (λ ps. AreValues sig names [] (map (λ p. p.0) ps) no_values) (sym none) tt))
-            ] in
+        = elim (asked_or_itself ds k) [
+          | inl found ↦ subst (IsScheme sig names [] decl.cat.0) (sym found.2)
+              (subst (λ o. MatchOption o ⊥ (λ d. IsScheme sig names [] d.cat.0 found.0)) e
+              (first_so (λ m t. OfItsCategory sig names names (m, t)) k found.0 ds of_category_ones found.1))
+          | inr itself ↦ subst (IsScheme sig names [] decl.cat.0) (sym itself)
+              (subst (λ o. MatchOption o ⊥ (λ d. (d.cat.0 ≡ decl.cat.0) × AreValues sig names [] (map (λ p. p.0) d.params) no_values)) (sym e)
+              (refl, subst (λ ps. AreValues sig names [] (map (λ p. p.0) ps) no_values) (sym none) tt))
+        ] in
         subst (λ ps. IsScheme sig names (reverse (map (λ c. c.0) ps)) decl.cat.0 (scheme_at ds k)) (sym none) own
 
     module _ (agree : Agree ds) where

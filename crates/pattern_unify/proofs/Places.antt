@@ -1,6 +1,6 @@
 -- Facts about each place of a list.
-use Rattle.std.proofs.Common.{◌≡◌, ◌⊎◌, ℕ, zero, suc, ◌+◌, ◌<◌, ◌==◌, ◌||◌, Bool, true, false, List, [], ◌∷◌, length, Option, Some, None, slice_get, unwrap_or, inl, inr, ◌++◌, drop, map, refl, ap, ◌∙◌, sym, subst, append_assoc, arith}
-use Rattle.std.specs.List.{AllByRecursion, AllZip}
+use Rattle.std.proofs.Common.{◌≡◌, ◌⊎◌, ℕ, zero, suc, ◌+◌, ◌<◌, ◌==◌, ◌||◌, Bool, true, false, List, [], ◌∷◌, length, Some, slice_get, unwrap_or, inl, inr, ◌++◌, drop, map, refl, ap, ◌∙◌, sym, subst, append_assoc, arith}
+use Rattle.std.specs.List.{AllZip}
 use Rattle.std.proofs.lemmas.Bool.Decides.{nat_tests}
 use Rattle.std.proofs.lemmas.List.{map-append}
 use Rattle.std.proofs.lemmas.Option.{get_or_from_slice_get}
@@ -37,16 +37,17 @@ pub among_back : (m : ℕ) (fs : List ℕ) → is_among m fs ≡ true → AnyByR
 among_back m [] h = cc
 among_back m (f ∷ fs) h =
     elim (among_either m f fs (f == m) refl h) [
-      inl e ↦ inl e
+      | inl e ↦ inl e
       | inr k ↦ inr (among_back m fs k)
     ]
 
 -- facts on numbered elements, from facts on each place
 pub numbered : {A : Type 0} (P : ℕ → A → Type 0) (n : ℕ) (xs : List A) → ((k : ℕ) (x : A) → slice_get xs k ≡ Some x → P (n + k) x) → AllNumbered P n xs
 numbered P n [] h = tt
-numbered P n (x ∷ xs) h =
-    (subst (λ k. P k x) (let e : n + 0 ≡ n = omega arith in e) (h 0 x refl),
-    numbered P (suc n) xs (λ k y e. subst (λ j. P j y) (let same : n + suc k ≡ suc n + k = omega arith in same) (h (suc k) y e)))
+numbered P n (x ∷ xs) h = (
+  subst (λ k. P k x) (let e : n + 0 ≡ n = omega arith in e) (h 0 x refl),
+  numbered P (suc n) xs (λ k y e. subst (λ j. P j y) (let same : n + suc k ≡ suc n + k = omega arith in same) (h (suc k) y e)),
+)
 
 pub numbered_at : {A : Type 0} (P : ℕ → A → Type 0) (n : ℕ) (xs : List A) (k : ℕ) (x : A) → AllNumbered P n xs → slice_get xs k ≡ Some x → P (n + k) x
 numbered_at P n [] k x h e = cc
@@ -58,9 +59,10 @@ numbered_at P n (y ∷ xs) (suc k) x h e = subst (λ j. P j x) (let z : suc n + 
 pub zipped : (R : MetaDecl → SchemeTree → Type 0) (ds : List (ℕ × SchemeTree)) (n : ℕ) (decls : List MetaDecl) →
     ((k : ℕ) (decl : MetaDecl) → slice_get decls k ≡ Some decl → R decl (scheme_at ds (n + k))) → AllZip R decls (schemes_from ds n decls)
 zipped R ds n [] h = tt
-zipped R ds n (decl ∷ decls) h =
-    (subst (λ k. R decl (scheme_at ds k)) (let e : n + 0 ≡ n = omega arith in e) (h 0 decl refl),
-    zipped R ds (n + 1) decls (λ k y e. subst (λ j. R y (scheme_at ds j)) (let same : n + suc k ≡ n + 1 + k = omega arith in same) (h (suc k) y e)))
+zipped R ds n (decl ∷ decls) h = (
+  subst (λ k. R decl (scheme_at ds k)) (let e : n + 0 ≡ n = omega arith in e) (h 0 decl refl),
+  zipped R ds (n + 1) decls (λ k y e. subst (λ j. R y (scheme_at ds j)) (let same : n + suc k ≡ n + 1 + k = omega arith in same) (h (suc k) y e)),
+)
 
 schemes_at : (ds : List (ℕ × SchemeTree)) (n : ℕ) (decls : List MetaDecl) (k : ℕ) → k < length decls → slice_get (schemes_from ds n decls) k ≡ Some (scheme_at ds (n + k))
 schemes_at ds n [] k h = absurd (omega arith)

@@ -1,9 +1,9 @@
 -- What demands say about the substitutions that make the sides equal.
-use Rattle.std.proofs.Common.{◌≡◌, ◌↔◌, ℕ, zero, suc, ◌+◌, ◌-◌, ◌<◌, ◌≤◌, ◌==◌, nat_eq, nat_lt, Bool, true, false, IsTrue, List, [], ◌∷◌, ◌++◌, length, map, Option, Some, None, MatchOption, slice_get, if◌then◌else◌, inl, inr, ◌⊎◌, refl, ap, ◌∙◌, sym, subst, arith}
+use Rattle.std.proofs.Common.{◌≡◌, ◌↔◌, ℕ, ◌+◌, ◌<◌, ◌==◌, Bool, true, false, IsTrue, List, [], ◌∷◌, ◌++◌, Option, Some, None, if◌then◌else◌, inl, inr, ◌⊎◌, refl, ap, ◌∙◌, sym, subst, arith}
 use Rattle.std.specs.List.{AllByRecursion}
 use Rattle.std.proofs.lemmas.Bool.Decides.{nat_tests}
 use Rattle.binding_terms.specs.Numbered.{AnyByRecursion}
-use Rattle.scheme_terms.specs.SchemeTree.{SchemeTree, meta, known, local, con, Values, no_values, value, Parts, no_parts, part, StrictIn, StrictInParts, shifted, under, filled, filled_values, filled_parts}
+use Rattle.scheme_terms.specs.SchemeTree.{SchemeTree, meta, known, local, con, Values, no_values, value, Parts, no_parts, part, StrictIn, StrictInParts, under, filled, filled_values, filled_parts}
 use Rattle.scheme_terms.specs.Substituting.{scheme_for, argument_or_local, applied, applied_parts}
 use Rattle.pattern_unify.specs.Demands.{is_among, joined, test, fixed_demands, demands, part_demands}
 use Rattle.pattern_unify.proofs.PlainSchemes.{IsPlain, ArePlain}
@@ -68,11 +68,11 @@ Keeps fl ss n = (m : ℕ) → m < n → is_among m fl ≡ false → scheme_for s
 module _ (fl : List ℕ) (ss : List SchemeTree) (ks : List ℕ) (n other : ℕ) (keeps : Keeps fl ss n) where
   met_fixed : (m : ℕ) (t : SchemeTree) → scheme_for ss m ≡ meta m no_values → IsPlain other t → Met ss (fixed_demands m t) ↔ (scheme_for ss m ≡ t)
   met_fixed m (meta k ws) e h = (
-      λ g. let same : m ≡ k = (same_number m k).0 ((met_test ss (m == k)).0 g) in
-          let none = h.1 in
-          cc,
-      λ g. let same : m ≡ k = cc in (met_test ss (m == k)).1 ((same_number m k).1 same),
-    )
+    λ g. let same : m ≡ k = (same_number m k).0 ((met_test ss (m == k)).0 g) in
+        let none = h.1 in
+        cc,
+    λ g. let same : m ≡ k = cc in (met_test ss (m == k)).1 ((same_number m k).1 same),
+  )
   met_fixed m (known k) e h = absurd h
   met_fixed m (local i) e h = absurd h
   met_fixed m (con p xs) e h = (λ g. absurd g, λ g. cc)
@@ -85,11 +85,11 @@ module _ (fl : List ℕ) (ss : List SchemeTree) (ks : List ℕ) (n other : ℕ) 
   met_con : (p q : ℕ) (xs ys : Parts) (b : Bool) → (p == q) ≡ b → Met ss (part_demands fl xs ys) ↔ (applied_parts ss ks 0 xs ≡ ys) →
       Met ss (if b then part_demands fl xs ys else None) ↔ (con p (applied_parts ss ks 0 xs) ≡ con q ys)
   met_con p q xs ys true e r = (
-      λ k. let same : p ≡ q = (same_number p q).0 e in
-          let parts = r.0 k in
-          cc,
-      λ k. r.1 (let parts : applied_parts ss ks 0 xs ≡ ys = cc in parts),
-    )
+    λ k. let same : p ≡ q = (same_number p q).0 e in
+        let parts = r.0 k in
+        cc,
+    λ k. r.1 (let parts : applied_parts ss ks 0 xs ≡ ys = cc in parts),
+  )
   met_con p q xs ys false e r =
       (λ k. absurd k, λ k. let same : p ≡ q = cc in let yes = (same_number p q).1 same in cc)
 

@@ -1,7 +1,7 @@
 -- What equations leave to say once their sides are taken apart: the flexible names, each with what it has to stand for.
 use Rattle.std.specs.Prelude.{◌≡◌, ℕ, zero, suc, ◌==◌, Bool, true, false, ◌||◌, if◌then◌else◌, List, [], ◌∷◌, ◌++◌, Option, Some, None, unwrap_or, ◌+◌}
 use Rattle.std.specs.List.{AllByRecursion}
-use Rattle.scheme_terms.specs.SchemeTree.{SchemeTree, meta, known, local, con, Values, no_values, Parts, no_parts, part}
+use Rattle.scheme_terms.specs.SchemeTree.{SchemeTree, meta, known, local, con, no_values, Parts, no_parts, part}
 use Rattle.scheme_terms.specs.Forms.{Names, Substitution}
 use Rattle.scheme_terms.specs.View.{scheme}
 use Rattle.scheme_terms.specs.declared.scheme.MetaDecl.{MetaDecl}

@@ -72,11 +72,7 @@ fn schemes_for(
 }
 
 /// The substitution that gives each name what is asked of it.
-fn substitution_for(
-    alloc: Global,
-    scope: &Scope,
-    found: &[Demand<'_>],
-) -> Result<Subst, NoMemory>
+fn substitution_for(alloc: Global, scope: &Scope, found: &[Demand<'_>]) -> Result<Subst, NoMemory>
     ensures { IfOk result (λ by. substitution by ≡ solution (map demand found.now) (names scope.now)) }
 {
     Ok(Subst {
@@ -157,10 +153,5 @@ pub fn fit_into(
     if !agree(found.as_slice()) {
         return Ok(None);
     }
-    Ok(Some(substitution_into(
-        alloc,
-        from,
-        into,
-        found.as_slice(),
-    )?))
+    Ok(Some(substitution_into(alloc, from, into, found.as_slice())?))
 }

@@ -100,7 +100,11 @@ fn a_name_stands_for_one_constant(rt: HostRuntime) -> Result<(), Fail> {
     if let Some(sig) = &sig {
         for (first, second) in [(0, 0), (0, 1), (1, 0), (1, 1)] {
             let answer = fitted(alloc, sig, first, second)?;
-            assert_eq!(rt; answer.is_some(), first == second, "at {first} and {second}");
+            assert_eq!(rt;
+                answer.is_some(),
+                first == second,
+                "at {first} and {second}"
+            );
             if let Some(by) = &answer {
                 let wanted = wanted(alloc, first);
                 for value in by.metas.as_slice() {

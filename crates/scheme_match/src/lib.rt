@@ -6,5 +6,7 @@ mod context;
 mod demand;
 mod matcher;
 mod pair;
+#[cfg(test)]
+mod tests;
 
 pub use matcher::Matcher;

@@ -1,4 +1,4 @@
-use Rattle.std.proofs.Common.{Some, map, ap, sym, ◌∙◌}
+use Rattle.std.proofs.Common.{Some, map, ap, sym}
 use Rattle.pattern_unify.specs.Demands.{demand, joined}
 use Rattle.pattern_unify.proofs.Joining.{parts_differ}
 use Rattle.pattern_unify.proofs.demand.+take_apart.Goals as goal

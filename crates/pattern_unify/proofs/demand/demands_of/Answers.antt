@@ -1,7 +1,7 @@
 use Rattle.std.proofs.Common.{map, ap}
 use Rattle.pattern_unify.specs.Equations.{equation}
 use Rattle.pattern_unify.specs.Demands.{all_demands}
-use Rattle.pattern_unify.proofs.Joining.{left_at, one_more, one_clash}
+use Rattle.pattern_unify.proofs.Joining.{left_at, one_more}
 use Rattle.pattern_unify.proofs.demand.demands_of.Goals as goal
 
 pub loop-equation-preserved : goal.loop-equation-preserved

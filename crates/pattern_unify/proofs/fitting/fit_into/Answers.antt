@@ -1,7 +1,7 @@
-use Rattle.std.proofs.Common.{◌≡◌, Some, None, map, length, option_map, ap, ◌∙◌, refl, sym, subst, true≢false}
-use Rattle.scheme_terms.specs.View.{names, substitution}
+use Rattle.std.proofs.Common.{Some, map, option_map, ap, ◌∙◌, refl, sym, subst, true≢false}
+use Rattle.scheme_terms.specs.View.{names}
 use Rattle.pattern_unify.specs.Equations.{equation}
-use Rattle.pattern_unify.specs.Demands.{demand, all_demands, up_to, solution_into}
+use Rattle.pattern_unify.specs.Demands.{demand}
 use Rattle.pattern_unify.specs.FitInto.{IsOnlyFitInto}
 use Rattle.pattern_unify.proofs.IntoFit.{none_fits, none_agrees, one_fits}
 use Rattle.pattern_unify.proofs.fitting.fit_into.Goals as goal
@@ -25,4 +25,4 @@ returns c =
     let by = rw c.as_slice-4.ensures.value at c.in_ok-substitution_into.ensures in
     subst (λ s. IsOnlyFitInto c.args.sig.now (names c.args.from.now) (names c.args.into.now) (map equation c.args.eqs.now.items) (Some s)) (sym by)
     (one_fits _ _ _ _ c.requires.plain c.requires.asked (map demand c.in-Some.found.items)
-        (sym all ∙ ap (option_map (λ ds. map demand ds.items)) c.in-Some.is) (tested.0 refl))
+    (sym all ∙ ap (option_map (λ ds. map demand ds.items)) c.in-Some.is) (tested.0 refl))

@@ -1,6 +1,5 @@
-use Rattle.std.proofs.Common.{◌≡◌, ap, ◌∙◌}
-use Rattle.scheme_terms.specs.View.{scheme}
-use Rattle.pattern_unify.specs.Demands.{demand, scheme_at}
+use Rattle.std.proofs.Common.{ap, ◌∙◌}
+use Rattle.pattern_unify.specs.Demands.{scheme_at}
 use Rattle.pattern_unify.proofs.Places.{schemes_more}
 use Rattle.pattern_unify.proofs.fitting.schemes_for.Goals as goal
 
