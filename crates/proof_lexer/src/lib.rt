@@ -16,7 +16,8 @@ mod token;
 mod worked;
 
 pub use fault::LexFault;
-pub use laws::{tokens_are_unique, tokens_or_fault};
+pub use laws::{tokens_are_unique, tokens_or_fault, tokens_stand_in_source};
 pub use lexer::lex;
 pub use line::source_line;
+pub use run::is_numeral;
 pub use token::{Kind, Token};

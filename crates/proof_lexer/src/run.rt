@@ -1,11 +1,11 @@
 // Runs of characters: comments, words, symbols and the insides of quotes.
 ghost use Rattle.std.specs.Prelude.{◌≡◌, ◌≤◌, ◌==◌, ◌||◌, length, chars};
-ghost use Rattle.sy_base.specs.Tokens.{begins, is_blank, is_single, is_other};
+ghost use Rattle.sy_base.specs.Tokens.{begins, is_blank, is_single, is_other, is_numeral};
 ghost use Rattle.unicode_ident.specs.Ident.{is_xid_continue};
 ghost use Rattle.proof_lexer.specs.Front.{goes_on, RunEnds};
 
 use crate::characters::first_of;
-use unicode_ident::is_xid_continue;
+use unicode_ident::{is_xid_continue, is_xid_start};
 
 // What a run of characters is the inside of.
 #[derive(Clone, Copy)]
@@ -55,6 +55,17 @@ fn begins_with_word(text: &str) -> bool
     match first_of(text) {
         Some((first, _)) => is_xid_continue(first),
         None => false,
+    }
+}
+
+/// Whether a word is a numeral, which is no name: it begins with neither an XID start character nor `_`.
+#[tactic(auto, unfolding(sy_base::specs::Tokens::is_numeral))]
+pub fn is_numeral(word: &str) -> bool
+    ensures { result ≡ is_numeral word.now }
+{
+    match first_of(word) {
+        Some((first, _)) => !(is_xid_start(first) || first == '_'),
+        None => true,
     }
 }
 

@@ -1,8 +1,11 @@
 // Tokens of small texts and of the worked theories.
 ghost use Rattle.std.specs.Prelude.{◌-◌, ◌^◌, ◌<◌, length};
 
-use crate::worked::LINES;
-use crate::{Kind, LexFault, Token, lex, source_line, tokens_are_unique, tokens_or_fault};
+use crate::worked::worked_lines;
+use crate::{
+    Kind, LexFault, Token, lex, source_line, tokens_are_unique, tokens_or_fault,
+    tokens_stand_in_source,
+};
 use std::alloc::{AllocError, Global};
 use std::test::Fail;
 
@@ -130,13 +133,14 @@ fn small_texts(rt: HostRuntime) -> Result<(), Fail> {
     }
     tokens_are_unique();
     tokens_or_fault();
+    tokens_stand_in_source();
     Ok(())
 }
 
 // All the lines, each after such an end of a line.
-fn theories(alloc: Global, end: &str) -> Result<String, AllocError> {
+fn theories(alloc: Global, lines: &[(&str, &str)], end: &str) -> Result<String, AllocError> {
     let mut text = String::new(alloc);
-    for (line, _) in LINES.iter() {
+    for (line, _) in lines {
         text.push_str(end)?;
         text.push_str(line)?;
     }
@@ -144,9 +148,9 @@ fn theories(alloc: Global, end: &str) -> Result<String, AllocError> {
 }
 
 // The words of all the lines.
-fn theory_words(alloc: Global) -> Result<String, AllocError> {
+fn theory_words(alloc: Global, lines: &[(&str, &str)]) -> Result<String, AllocError> {
     let mut text = String::new(alloc);
-    for (_, tokens) in LINES.iter() {
+    for (_, tokens) in lines {
         if !text.is_empty() {
             text.push_str(" ")?;
         }
@@ -158,19 +162,14 @@ fn theory_words(alloc: Global) -> Result<String, AllocError> {
 #[test]
 fn worked_theories(rt: HostRuntime) -> Result<(), Fail> {
     let alloc = rt.alloc();
-    let all = theory_words(alloc)?;
+    let lines = worked_lines();
+    let all = theory_words(alloc, lines)?;
     for end in ["\n", "\r\n"] {
-        let source = theories(alloc, end)?;
+        let source = theories(alloc, lines, end)?;
         assert!(rt; source.len() < 100_000);
         assert_eq!(rt; words(alloc, source.as_bytes())?, all);
     }
-    Ok(())
-}
-
-#[test]
-fn worked_lines(rt: HostRuntime) -> Result<(), Fail> {
-    let alloc = rt.alloc();
-    for (line, tokens) in LINES.iter() {
+    for (line, tokens) in lines {
         assert!(rt; line.len() < 1000);
         assert_eq!(rt; words(alloc, line.as_bytes())?.as_str(), *tokens);
     }

@@ -1,5 +1,9 @@
 // The lines of the worked theories, and beside each its words.
-pub(crate) static LINES: [(&str, &str); 145] = [
+pub(crate) fn worked_lines() -> &'static [(&'static str, &'static str)] {
+    &LINES
+}
+
+static LINES: [(&str, &str); 145] = [
     ("terminals z s", "terminals z s"),
     ("syntax", "syntax"),
     ("n ::= z | s n", "n ::= z | s n"),

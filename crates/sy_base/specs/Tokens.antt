@@ -1,7 +1,7 @@
 -- Which tokens a text has, and which fault it has where it has none. To be held against 'Tokens' of docs/notation.md.
 use Rattle.std.specs.Prelude.{◌≡◌, ◌≢◌, ℕ, ◌+◌, Bool, true, false, not, ◌&&◌, ◌||◌, ◌==◌, IsTrue, IsFalse, nat_le, if◌then◌else◌, count_by, List, [], ◌∷◌, ◌++◌, length}
-use Rattle.std.specs.Str.{all_scalars, encode_utf8_all, StartsWithNoChar}
-use Rattle.unicode_ident.specs.Ident.{is_xid_continue}
+use Rattle.std.specs.Str.{all_scalars, chars, encode_utf8_all, StartsWithNoChar}
+use Rattle.unicode_ident.specs.Ident.{is_xid_start, is_xid_continue}
 
 -- A token: the number of its kind (0 a word, 1 a symbol, 2 punctuation, 3 a bar, 4 quoted), its text (of a quoted token
 -- what stands between the quotes), the part of the source that it covers, in bytes, and its line, counted from 1.
@@ -55,6 +55,10 @@ abbrev pub IsLongestRun : (ℕ → List ℕ → Bool) → (run rest : List ℕ) 
 IsLongestRun goes_on [] [] = Unit {0}
 IsLongestRun goes_on [] (c ∷ rest) = IsFalse (goes_on c rest)
 IsLongestRun goes_on (c ∷ run) rest = IsTrue (goes_on c (run ++ rest)) × IsLongestRun goes_on run rest
+
+-- A word that begins with neither an XID start character nor `_` (95) is a numeral. It is no name.
+unfoldable pub is_numeral : List ℕ → Bool
+is_numeral word = not (begins (λ c. is_xid_start c || (c == 95)) (chars word))
 
 -- these are dashes and nothing else
 abbrev pub all_dashes : List ℕ → Bool
