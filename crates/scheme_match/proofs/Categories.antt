@@ -1,5 +1,5 @@
 -- What is asked of a metavariable is of its category.
-use Rattle.std.proofs.Common.{◌≡◌, ℕ, ◌==◌, nat_eq, Bool, true, List, [], ◌∷◌, ◌++◌, Option, Some, None, MatchOption, slice_get, if◌then◌else◌, ap, ◌∙◌, sym, subst, arith}
+use Rattle.std.proofs.Common.{◌≡◌, ℕ, ◌==◌, List, [], ◌∷◌, ◌++◌, Some, None, MatchOption, slice_get, if◌then◌else◌, ap, sym, subst, arith}
 use Rattle.std.specs.List.{AllByRecursion}
 use Rattle.std.proofs.lemmas.Bool.Decides.{nat_tests}
 use Rattle.binding_terms.specs.Tree.{Tree, var, con as node, Args, no_args, arg}
@@ -42,10 +42,10 @@ module _ (sig : Signature) (names : Names) (scope : List ℕ) (slots_bind : Noth
     of_category c (con p xs) (node q ys) h g =
         each_if (OfItsCategory sig names.metas scope) (p == q) (part_demands xs ys)
         (λ e. let one = chosen _ _ h in
-            let other = chosen _ _ g in
-            let same : p ≡ q = grind (arith, nat_tests) in
-            of_category_parts (binders one.0.items) (slots one.0.items) xs ys (all_at _ _ _ _ slots_bind one.1) one.2.1
-            (subst (λ prod. AreParts sig scope (binders prod.items) (slots prod.items) ys) (same_prod _ _ _ _ _ same one.1 other.1) other.2.1))
+        let other = chosen _ _ g in
+        let same : p ≡ q = grind (arith, nat_tests) in
+        of_category_parts (binders one.0.items) (slots one.0.items) xs ys (all_at _ _ _ _ slots_bind one.1) one.2.1
+        (subst (λ prod. AreParts sig scope (binders prod.items) (slots prod.items) ys) (same_prod _ _ _ _ _ same one.1 other.1) other.2.1))
 
     pub of_category_parts : (bs : List ℕ) (ss : List Place) (xs : Parts) (ys : Args) → AllByRecursion (λ s. s.binds ≡ []) ss →
         AreSchemeParts sig names [] bs ss xs → AreParts sig scope bs ss ys → Each (OfItsCategory sig names.metas scope) (part_demands xs ys)

@@ -1,5 +1,5 @@
 -- Contexts that are the same, part by part.
-use Rattle.std.proofs.Common.{◌≡◌, ◌↔◌, List, length, map, ap, ◌∙◌, sym, Bool, true, false, IsTrue, true≢false}
+use Rattle.std.proofs.Common.{◌≡◌, List, length, map, ap, ◌∙◌, sym}
 use Rattle.std.proofs.lemmas.List.{length-map}
 use Rattle.scheme_terms.specs.Forms.{ContextValue}
 

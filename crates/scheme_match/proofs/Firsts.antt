@@ -1,5 +1,5 @@
 -- What is asked of a name first.
-use Rattle.std.proofs.Common.{◌≡◌, ◌⊎◌, ℕ, ◌==◌, nat_eq, Bool, true, false, List, [], ◌∷◌, ◌++◌, Option, Some, None, if◌then◌else◌, inl, inr, refl, ap, ◌∙◌, sym, subst, append_assoc, arith}
+use Rattle.std.proofs.Common.{◌≡◌, ◌⊎◌, ℕ, ◌==◌, Bool, true, false, List, [], ◌∷◌, ◌++◌, Some, if◌then◌else◌, inl, inr, refl, ap, ◌∙◌, sym, subst, append_assoc, arith}
 use Rattle.std.specs.List.{AllByRecursion}
 use Rattle.std.proofs.lemmas.Bool.Decides.{nat_tests}
 use Rattle.binding_terms.specs.Numbered.{AnyByRecursion}
@@ -29,7 +29,7 @@ module _ {A : Type 0} where
   first_so P m t [] h e = cc
   first_so P m t (d ∷ ds) h e =
       elim (first_either m d ds t (d.0 == m) refl e) [
-        inl k ↦ subst (λ n. P n t) k.0 (subst (P d.0) k.1 h.0)
+        | inl k ↦ subst (λ n. P n t) k.0 (subst (P d.0) k.1 h.0)
         | inr k ↦ first_so P m t ds h.1 k
       ]
 

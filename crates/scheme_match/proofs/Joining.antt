@@ -1,5 +1,5 @@
 -- Demands put together.
-use Rattle.std.proofs.Common.{◌≡◌, ℕ, ◌+◌, ◌<◌, Bool, true, false, List, [], ◌∷◌, ◌++◌, length, get_or, map, drop, Option, Some, None, refl, ap, ◌∙◌, sym, append_assoc, arith}
+use Rattle.std.proofs.Common.{◌≡◌, ℕ, ◌+◌, ◌<◌, Bool, true, false, List, [], ◌∷◌, length, get_or, map, drop, Option, Some, None, refl, ap, ◌∙◌, sym, append_assoc, arith}
 use Rattle.std.proofs.lemmas.List.{drop_more, append-nil}
 use Rattle.binding_terms.specs.View.{tree, arg_tree, args_tree}
 use Rattle.binding_terms.specs.declared.term.Arg.{Arg}
@@ -7,7 +7,7 @@ use Rattle.binding_terms.specs.declared.term.Term.{Term}
 use Rattle.scheme_terms.specs.View.{scheme, scheme_part, scheme_parts}
 use Rattle.scheme_terms.specs.declared.scheme.Scheme.{Scheme}
 use Rattle.scheme_terms.specs.declared.scheme.SArg.{SArg}
-use Rattle.scheme_match.specs.Demands.{joined, unless_clash, test, demands, part_demands, at_part, list_demands}
+use Rattle.scheme_match.specs.Demands.{joined, unless_clash, demands, part_demands, at_part, list_demands}
 
 pub joined_none : {A : Type 0} (xs : Option (List A)) → joined xs None ≡ None
 joined_none None = refl

@@ -1,6 +1,6 @@
 -- The instance that gives each metavariable what is asked of it is the only one that makes the pairs equal.
 use Rattle.std.proofs.Common.{◌≡◌, ◌⊎◌, ℕ, ◌+◌, ◌<◌, ◌≤◌, List, [], ◌∷◌, ◌++◌, length, map, reverse, Option, Some, None, MatchOption, slice_get, unwrap_or, inl, inr, refl, ap, ◌∙◌, sym, subst, arith}
-use Rattle.std.specs.List.{AllByRecursion, AllZip}
+use Rattle.std.specs.List.{AllByRecursion}
 use Rattle.std.proofs.lemmas.Bool.{cases_lt}
 use Rattle.std.proofs.lemmas.Option.{slice_get_within, slice_get_past}
 use Rattle.std.proofs.lemmas.Slice.Zip.{AllZip-long}
@@ -11,7 +11,7 @@ use Rattle.scheme_terms.specs.Forms.{Instance}
 use Rattle.scheme_terms.specs.Context.{scope_of}
 use Rattle.scheme_terms.specs.Instance.{value_of, IsMetaValue}
 use Rattle.scheme_terms.specs.declared.scheme.MetaDecl.{MetaDecl}
-use Rattle.scheme_match.specs.Matching.{Matching, IsMatching, IsMatch, IsOnlyMatch, MakesEqual, StrictInPair, AreStrict}
+use Rattle.scheme_match.specs.Matching.{Matching, IsMatching, IsMatch, IsOnlyMatch, StrictInPair, AreStrict}
 use Rattle.scheme_match.specs.Demands.{all_demands, HeadsAgree, first_for, Agree, values_from, solution}
 use Rattle.scheme_match.proofs.Categories.{OfItsCategory}
 use Rattle.scheme_match.proofs.Firsts.{first_found, first_so, agree_from_met}
@@ -49,8 +49,8 @@ module _ (m : Matching) (ok : IsMatching m) where
       strict_at : (k : ℕ) (decl : MetaDecl) → slice_get m.metas k ≡ Some decl → (t : Tree) × (first_for k ds ≡ Some t)
       strict_at k decl e =
           let place : AnyByRecursion (StrictInPair k) m.pairs =
-              subst (λ n. AnyByRecursion (StrictInPair n) m.pairs) (let z : 0 + k ≡ k = omega arith in z)
-              (numbered_at (λ n decl. AnyByRecursion (StrictInPair n) m.pairs) 0 m.metas k decl strict e) in
+          subst (λ n. AnyByRecursion (StrictInPair n) m.pairs) (let z : 0 + k ≡ k = omega arith in z)
+          (numbered_at (λ n decl. AnyByRecursion (StrictInPair n) m.pairs) 0 m.metas k decl strict e) in
           first_found k ds (subst (Asks k) is (asks_all m.sig m.metas m.root ok.slots ok.metas k m.pairs ok.pairs place))
 
       value_at : (k : ℕ) (t : Tree) → k < length m.metas → first_for k ds ≡ Some t → value_of (solution ds m.metas m.root) k ≡ t
@@ -73,8 +73,8 @@ module _ (m : Matching) (ok : IsMatching m) where
           let first = strict_at k decl e in
           let none : decl.params ≡ [] = all_at (λ d. d.params ≡ []) m.metas k decl ok.metas e in
           let own : IsTerm m.sig (scope_of m.sig m.root) decl.cat.0 first.0 =
-              subst (λ o. MatchOption o ⊥ (λ d. IsTerm m.sig (scope_of m.sig m.root) d.cat.0 first.0)) e
-              (first_so (λ n t. OfItsCategory m.sig m.metas (scope_of m.sig m.root) (n, t)) k first.0 ds of_category_ones first.1) in
+          subst (λ o. MatchOption o ⊥ (λ d. IsTerm m.sig (scope_of m.sig m.root) d.cat.0 first.0)) e
+          (first_so (λ n t. OfItsCategory m.sig m.metas (scope_of m.sig m.root) (n, t)) k first.0 ds of_category_ones first.1) in
           subst (IsMetaValue m.sig (solution ds m.metas m.root) decl) (sym first.1)
           (subst (λ ps. IsTerm m.sig (reverse (map (λ c. c.0) ps) ++ scope_of m.sig m.root) decl.cat.0 first.0) (sym none) own)
 

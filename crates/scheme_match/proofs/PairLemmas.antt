@@ -1,22 +1,22 @@
 -- What the demands of a pair say about the instances that make it equal.
-use Rattle.std.proofs.Common.{◌≡◌, ◌↔◌, ◌⊎◌, ℕ, ◌+◌, List, [], ◌∷◌, ◌++◌, length, map, Option, Some, None, inl, inr, refl, ap, ◌∙◌, sym, subst, arith}
+use Rattle.std.proofs.Common.{◌≡◌, ◌↔◌, ℕ, List, [], ◌∷◌, ◌++◌, length, map, inl, inr, refl, ap, ◌∙◌, sym, subst}
 use Rattle.std.specs.List.{AllByRecursion}
 use Rattle.std.proofs.lemmas.List.{append-nil}
 use Rattle.binding_terms.specs.Numbered.{AnyByRecursion}
 use Rattle.binding_terms.specs.Tree.{Tree}
 use Rattle.binding_terms.specs.Signature.{Signature, Place}
 use Rattle.scheme_terms.specs.SchemeTree.{SchemeTree, StrictIn}
-use Rattle.scheme_terms.specs.Forms.{Names, SchemeContext, SchemeEntry, GroundEntry, ContextValue, Instance}
+use Rattle.scheme_terms.specs.Forms.{Names, SchemeContext, SchemeEntry, ContextValue, Instance}
 use Rattle.scheme_terms.specs.Context.{AreArguments, scope_of}
 use Rattle.scheme_terms.specs.Instance.{instance_of, context_instance, root_entries, entries_instance, root_cat}
 use Rattle.scheme_terms.specs.SchemeScope.{AreSchemes}
 use Rattle.scheme_terms.specs.declared.scheme.MetaDecl.{MetaDecl}
 use Rattle.scheme_terms.specs.declared.scheme.Root.{Root}
 use Rattle.scheme_terms.specs.declared.scheme.Root.TheVariants.{Closed, Empty, Whole}
-use Rattle.rule_schemes.specs.Rules.{JudgmentScheme, JudgmentValue, judgment_instance, AreClosed, IsInstance, StrictInEntries}
+use Rattle.rule_schemes.specs.Rules.{JudgmentScheme, JudgmentValue, AreClosed, StrictInEntries}
 use Rattle.scheme_match.specs.Plain.{NothingBinds, HaveNoParameters}
-use Rattle.scheme_match.specs.Matching.{Matched, judgments, terms, ArgumentsFit, TermsFit, PairFits, MakesEqual, StrictInPair}
-use Rattle.scheme_match.specs.Demands.{joined, demands, list_demands, pair_demands, all_demands, bare_entries, bare_context, HeadsAgree}
+use Rattle.scheme_match.specs.Matching.{Matched, judgments, terms, ArgumentsFit, PairFits, MakesEqual, StrictInPair}
+use Rattle.scheme_match.specs.Demands.{demands, list_demands, pair_demands, all_demands, bare_entries, bare_context, HeadsAgree}
 use Rattle.scheme_match.proofs.Categories.{OfItsCategory, of_category, of_category_list}
 use Rattle.scheme_match.proofs.PlainPatterns.{IsPlain, plain_scheme}
 use Rattle.scheme_match.proofs.Scopes.{wider, closed_arguments}
@@ -60,8 +60,8 @@ context_is : (inst : Instance) (root : ContextValue) (ctx : SchemeContext) → i
     context_instance inst ctx ≡ bare_context root ctx.root
 context_is inst root ctx e none =
     let entries : root_entries inst ctx.root ++ entries_instance inst 0 ctx.entries ≡ bare_entries root ctx.root
-        = ap (λ es. root_entries inst ctx.root ++ es) (no_entries inst ctx.entries none)
-        ∙ append-nil (root_entries inst ctx.root) ∙ root_entries-bare inst root ctx.root e in
+    = ap (λ es. root_entries inst ctx.root ++ es) (no_entries inst ctx.entries none)
+    ∙ append-nil (root_entries inst ctx.root) ∙ root_entries-bare inst root ctx.root e in
     λ i. record { cat = root_cat ctx.root; entries = entries i }
 
 -- arguments over a bare context are in the scope of the root
@@ -109,7 +109,7 @@ module _ (sig : Signature) (metas : List MetaDecl) (root : ContextValue) (slots_
         let args = fit.1 head.0 in
         let each = met_list inst j.args v.args (plain_list args.names args.metas_are args.knowns_are args.places j.args args.schemes) in
         let depth : map (instance_of inst (length j.context.entries)) j.args ≡ map (instance_of inst 0) j.args
-            = ap (λ es. map (instance_of inst (length es)) j.args) fit.0 in (
+        = ap (λ es. map (instance_of inst (length es)) j.args) fit.0 in (
           λ k. let context = context_is inst root j.context over fit.0 ∙ head.1 in
               let values = depth ∙ each.0 k in
               record {
@@ -141,7 +141,7 @@ module _ (sig : Signature) (metas : List MetaDecl) (root : ContextValue) (slots_
       let args = fit.1 head.0 in
       subst (λ ms. Each (OfItsCategory sig ms (scope_of sig root)) (list_demands j.args v.args)) args.metas_are
       (of_category_list sig args.names (scope_of sig root) slots_bind args.places j.args v.args args.schemes
-          (in_root sig root j.context.root args.places v.args (values_in_bare j v args head.1)))
+      (in_root sig root j.context.root args.places v.args (values_in_bare j v args head.1)))
   of_category_pair (terms n s t) fit head =
       subst (λ ms. Each (OfItsCategory sig ms (scope_of sig root)) (demands s t)) fit.1.metas_are
       (of_category sig fit.1.names (scope_of sig root) slots_bind fit.1.cat s t fit.1.scheme_fits fit.1.value_fits)

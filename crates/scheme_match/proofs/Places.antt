@@ -1,5 +1,5 @@
 -- Facts about each place of a list.
-use Rattle.std.proofs.Common.{◌≡◌, ℕ, zero, suc, ◌+◌, ◌<◌, List, [], ◌∷◌, ◌++◌, length, drop, map, Option, Some, None, slice_get, refl, ap, ◌∙◌, sym, subst, append_assoc, option_map, arith}
+use Rattle.std.proofs.Common.{◌≡◌, ℕ, zero, suc, ◌+◌, ◌<◌, List, [], ◌∷◌, ◌++◌, length, drop, map, Option, Some, slice_get, refl, ap, ◌∙◌, sym, subst, append_assoc, option_map, arith}
 use Rattle.std.specs.List.{AllZip}
 use Rattle.std.proofs.lemmas.List.{map-append}
 use Rattle.std.proofs.lemmas.Option.{get_or_from_slice_get}
@@ -21,9 +21,10 @@ numbered_at P n (y ∷ xs) (suc k) x h e = subst (λ j. P j x) (let z : suc n + 
 pub zipped : (R : MetaDecl → Option Tree → Type 0) (ds : List (ℕ × Tree)) (n : ℕ) (decls : List MetaDecl) →
     ((k : ℕ) (decl : MetaDecl) → slice_get decls k ≡ Some decl → R decl (first_for (n + k) ds)) → AllZip R decls (values_from ds n decls)
 zipped R ds n [] h = tt
-zipped R ds n (decl ∷ decls) h =
-    (subst (λ k. R decl (first_for k ds)) (let e : n + 0 ≡ n = omega arith in e) (h 0 decl refl),
-    zipped R ds (n + 1) decls (λ k y e. subst (λ j. R y (first_for j ds)) (let same : n + suc k ≡ n + 1 + k = omega arith in same) (h (suc k) y e)))
+zipped R ds n (decl ∷ decls) h = (
+  subst (λ k. R decl (first_for k ds)) (let e : n + 0 ≡ n = omega arith in e) (h 0 decl refl),
+  zipped R ds (n + 1) decls (λ k y e. subst (λ j. R y (first_for j ds)) (let same : n + suc k ≡ n + 1 + k = omega arith in same) (h (suc k) y e)),
+)
 
 values_at_from : (ds : List (ℕ × Tree)) (n : ℕ) (decls : List MetaDecl) (k : ℕ) → k < length decls → slice_get (values_from ds n decls) k ≡ Some (first_for (n + k) ds)
 values_at_from ds n [] k h = absurd (omega arith)

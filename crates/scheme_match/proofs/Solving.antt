@@ -1,5 +1,5 @@
 -- What demands say about the instances that make a pattern its target.
-use Rattle.std.proofs.Common.{◌≡◌, ◌↔◌, ◌⊎◌, ℕ, ◌+◌, ◌-◌, ◌<◌, ◌≤◌, ◌==◌, nat_eq, nat_lt, Bool, true, false, IsTrue, List, [], ◌∷◌, ◌++◌, length, Option, Some, None, if◌then◌else◌, inl, inr, refl, ap, ◌∙◌, sym, subst, arith}
+use Rattle.std.proofs.Common.{◌≡◌, ◌↔◌, ◌⊎◌, ℕ, ◌+◌, ◌==◌, Bool, true, false, IsTrue, List, [], ◌∷◌, ◌++◌, Option, Some, None, if◌then◌else◌, inl, inr, refl, ap, ◌∙◌, sym, arith}
 use Rattle.std.specs.List.{AllByRecursion}
 use Rattle.std.proofs.lemmas.Bool.Decides.{nat_tests}
 use Rattle.binding_terms.specs.Numbered.{AnyByRecursion}
@@ -58,11 +58,11 @@ module _ (inst : Instance) where
   met_con : (p q : ℕ) (xs : Parts) (ys : Args) (b : Bool) → (p == q) ≡ b → Met inst (part_demands xs ys) ↔ (parts_instance inst 0 xs ≡ ys) →
       Met inst (if b then part_demands xs ys else None) ↔ (node p (parts_instance inst 0 xs) ≡ node q ys)
   met_con p q xs ys true e r = (
-      λ k. let same : p ≡ q = (same_number p q).0 e in
-          let parts = r.0 k in
-          cc,
-      λ k. r.1 (let parts : parts_instance inst 0 xs ≡ ys = cc in parts),
-    )
+    λ k. let same : p ≡ q = (same_number p q).0 e in
+        let parts = r.0 k in
+        cc,
+    λ k. r.1 (let parts : parts_instance inst 0 xs ≡ ys = cc in parts),
+  )
   met_con p q xs ys false e r =
       (λ k. absurd k, λ k. let same : p ≡ q = cc in let yes = (same_number p q).1 same in cc)
 
@@ -76,15 +76,15 @@ module _ (inst : Instance) where
 
       at : (c : Bool) → (a == b) ≡ c → Met inst (joined (if c then demands s t else None) (part_demands xs ys)) ↔ (arg a (instance_of inst (0 + a) s) (parts_instance inst 0 xs) ≡ arg b t ys)
       at true e = (
-          λ k. let both = (met_joined inst (demands s t) (part_demands xs ys)).0 k in
-              let same : a ≡ b = (same_number a b).0 e in
-              let here : instance_of inst (0 + a) s ≡ t = depth ∙ first.0 both.0 in
-              let there : parts_instance inst 0 xs ≡ ys = rest.0 both.1 in
-              cc,
-          λ k. let here : instance_of inst (0 + a) s ≡ t = cc in
-              let there : parts_instance inst 0 xs ≡ ys = cc in
-              (met_joined inst (demands s t) (part_demands xs ys)).1 (first.1 (sym depth ∙ here), rest.1 there),
-        )
+        λ k. let both = (met_joined inst (demands s t) (part_demands xs ys)).0 k in
+            let same : a ≡ b = (same_number a b).0 e in
+            let here : instance_of inst (0 + a) s ≡ t = depth ∙ first.0 both.0 in
+            let there : parts_instance inst 0 xs ≡ ys = rest.0 both.1 in
+            cc,
+        λ k. let here : instance_of inst (0 + a) s ≡ t = cc in
+            let there : parts_instance inst 0 xs ≡ ys = cc in
+            (met_joined inst (demands s t) (part_demands xs ys)).1 (first.1 (sym depth ∙ here), rest.1 there),
+      )
       at false e = (λ k. absurd k, λ k. let same : a ≡ b = cc in let yes = (same_number a b).1 same in cc)
 
   mutual
@@ -102,7 +102,6 @@ module _ (inst : Instance) where
     met_parts no_parts (arg b t ys) h = (λ k. absurd k, λ k. cc)
     met_parts (part a s xs) no_args h = (λ k. absurd k, λ k. cc)
     met_parts (part a s xs) (arg b t ys) h = met_part a b s t xs ys h.0 (met_demands s t h.1) (met_parts xs ys h.2)
-
 
 -- each demand is so, where there is no clash
 abbrev pub Each : (ℕ × Tree → Type 0) → Option (List (ℕ × Tree)) → Type 0

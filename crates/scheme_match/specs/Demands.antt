@@ -1,5 +1,5 @@
 -- What pairs leave to say once they are taken apart: the metavariables, each with what it has to stand for.
-use Rattle.std.specs.Prelude.{◌≡◌, ℕ, ◌==◌, ◌+◌, Bool, true, false, if◌then◌else◌, List, [], ◌∷◌, ◌++◌, map, Option, Some, None}
+use Rattle.std.specs.Prelude.{◌≡◌, ℕ, ◌==◌, ◌+◌, Bool, true, false, if◌then◌else◌, List, [], ◌∷◌, ◌++◌, Option, Some, None}
 use Rattle.std.specs.List.{AllByRecursion}
 use Rattle.binding_terms.specs.Tree.{Tree, var, con as node, Args, no_args, arg}
 use Rattle.binding_terms.specs.View.{tree}
@@ -9,7 +9,7 @@ use Rattle.scheme_terms.specs.Instance.{root_cat}
 use Rattle.scheme_terms.specs.declared.scheme.MetaDecl.{MetaDecl}
 use Rattle.scheme_terms.specs.declared.scheme.Root.{Root}
 use Rattle.scheme_terms.specs.declared.scheme.Root.TheVariants.{Closed, Empty, Whole}
-use Rattle.scheme_match.specs.Matching.{Matched, judgments, terms, Matching}
+use Rattle.scheme_match.specs.Matching.{Matched, judgments, terms}
 use Rattle.scheme_match.specs.declared.demand.Demand.{Demand}
 
 abbrev pub demand : Demand → ℕ × Tree

@@ -99,10 +99,7 @@ fn take_all_apart<'a>(
     Ok(true)
 }
 
-fn take_pair_apart<'a>(
-    pair: &Pair<'a>,
-    found: &mut Vec<Demand<'a>>,
-) -> Result<bool, NoMemory>
+fn take_pair_apart<'a>(pair: &Pair<'a>, found: &mut Vec<Demand<'a>>) -> Result<bool, NoMemory>
     ensures { IfOk result (λ same. unless_clash same (map demand found.new.items)
         ≡ joined (Some (map demand found.old.items)) (pair_demands (matched pair.now))) }
 {

@@ -29,7 +29,6 @@ pub struct Matcher<'a> {
 impl<'a> Model for Matcher<'a> {
     ghost use Rattle.std.specs.Prelude.{map};
     ghost use Rattle.scheme_match.specs.Matching.{Matching, IsMatching};
-
     ghost use Rattle.std.specs.Coded.{codes};
     ghost use Rattle.binding_terms.specs.Coding.{coded_tree};
     ghost use Rattle.scheme_match.specs.Coding.{coded_scheme};

@@ -83,10 +83,7 @@ fn name(alloc: Global) -> Scheme
 fn term(alloc: Global, constant: u32) -> Result<Term, NoMemory>
     ensures { IfOk result (λ t. tree t ≡ trees.con constant trees.no_args) }
 {
-    Ok(Term::Con(
-        ProdId(constant),
-        ArgList::make(alloc, Vec::new(alloc))?,
-    ))
+    Ok(Term::Con(ProdId(constant), ArgList::make(alloc, Vec::new(alloc))?))
 }
 
 /// The judgment of a name.
@@ -144,7 +141,11 @@ fn a_name_becomes_one_constant(rt: HostRuntime) -> Result<(), Fail> {
     if let Some(sig) = &sig {
         for (first, second) in [(0, 0), (0, 1), (1, 0), (1, 1)] {
             let answer = matched(alloc, sig, first, second)?;
-            assert_eq!(rt; answer.is_some(), first == second, "at {first} and {second}");
+            assert_eq!(rt;
+                answer.is_some(),
+                first == second,
+                "at {first} and {second}"
+            );
             if let Some(inst) = &answer {
                 let wanted = term(alloc, first)?;
                 for value in inst.metas.as_slice() {

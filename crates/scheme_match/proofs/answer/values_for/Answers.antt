@@ -1,4 +1,4 @@
-use Rattle.std.proofs.Common.{◌≡◌, map, ap, ◌∙◌}
+use Rattle.std.proofs.Common.{map, ap, ◌∙◌}
 use Rattle.scheme_match.specs.Demands.{demand, first_for}
 use Rattle.scheme_match.proofs.Places.{values_more}
 use Rattle.scheme_match.proofs.answer.values_for.Goals as goal

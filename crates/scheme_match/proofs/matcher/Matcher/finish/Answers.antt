@@ -1,4 +1,4 @@
-use Rattle.std.proofs.Common.{◌≡◌, Some, None, map, option_map, ap, ◌∙◌, refl, sym, subst, true≢false}
+use Rattle.std.proofs.Common.{Some, None, map, option_map, ap, ◌∙◌, refl, sym, subst, true≢false}
 use Rattle.scheme_terms.specs.View.{instance}
 use Rattle.scheme_match.specs.Matching.{AreStrict, IsOnlyMatch}
 use Rattle.scheme_match.specs.Demands.{demand}
@@ -22,7 +22,7 @@ returns-then-not-agree c =
     let tested = rw c.as_slice-3.ensures.value at c.if-not-agree.ensures in
     subst (λ m. IsOnlyMatch m None) c.self.view_is
     (none_agrees _ c.self.invariant (map demand c.in-Some.found.items) (sym all ∙ ap (option_map (λ ds. map demand ds.items)) c.in-Some.is)
-        (λ k. true≢false (sym (tested.1 k))))
+    (λ k. true≢false (sym (tested.1 k))))
 
 pub returns : goal.returns
 returns c =
@@ -32,4 +32,4 @@ returns c =
     let inst = rw c.as_slice-4.ensures.value at c.in_ok-inst.ensures in
     subst (λ m. IsOnlyMatch m (Some (instance c.in_ok-inst.inst))) c.self.view_is
     (one_matches_as _ c.self.invariant (map demand c.in-Some.found.items) (sym all ∙ ap (option_map (λ ds. map demand ds.items)) c.in-Some.is)
-        (subst AreStrict (sym c.self.view_is) c.requires) (heads.0 refl) (instance c.in_ok-inst.inst) inst (tested.0 refl))
+    (subst AreStrict (sym c.self.view_is) c.requires) (heads.0 refl) (instance c.in_ok-inst.inst) inst (tested.0 refl))
