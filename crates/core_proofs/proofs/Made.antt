@@ -11,7 +11,7 @@ use Rattle.core_proofs.specs.Step.{Step, begin_theorem, end_theorem, by_rule}
 use Rattle.core_proofs.specs.RuleStep.{AreCited, IsRuleInstance}
 use Rattle.core_proofs.specs.Proof.{IsStepForm, HasGoal, Standing, outside, within, Move, begins, by_a_rule, ends, Leads, one_step, no_step}
 use Rattle.core_proofs.specs.Value.{AreCitedTrees, subtrees, Makes, makes_node, makes_last}
-use Rattle.core_proofs.specs.Laws.{SpeaksOfNoContext, AreDerived, IsLastOf, DerivesGoal, MakesDerives}
+use Rattle.core_proofs.specs.Laws.{SpeaksOfNoContext, AreDerived, DerivesGoal, MakesDerives}
 use Rattle.core_proofs.proofs.RuleSteps.{rule_step_derives}
 
 -- what holds place by place holds at a place
@@ -42,15 +42,6 @@ zip_snoc R [] (y ∷ ys) a b h r = absurd h
 zip_snoc R (x ∷ xs) [] a b h r = absurd h
 zip_snoc R (x ∷ xs) (y ∷ ys) a b h r = (h.0, zip_snoc R xs ys a b h.1 r)
 
--- the last ones
-zip_last : {A B : Type 0} (R : A → B → Type 0) (xs : List A) (ys : List B) (a : A) (b : B) → AllZip R (xs ++ a ∷ []) (ys ++ b ∷ []) → R a b
-zip_last R [] [] a b h = h.0
-zip_last R [] (y ∷ []) a b h = absurd h.1
-zip_last R [] (y ∷ z ∷ ys) a b h = absurd h.1
-zip_last R (x ∷ []) [] a b h = absurd h.1
-zip_last R (x ∷ z ∷ xs) [] a b h = absurd h.1
-zip_last R (x ∷ xs) (y ∷ ys) a b h = zip_last R xs ys a b h.1
-
 -- a fact that holds of each rule holds of the rule with a number
 at_number : {A : Type 0} (P : A → Type 0) (xs : List A) (n : ℕ) (a : A) → AllByRecursion P xs → slice_get xs n ≡ Some a → P a
 at_number P [] n a h e = absurd (let no : ⊥ = cc in no)
@@ -58,21 +49,17 @@ at_number P (x ∷ xs) zero a h e = let same : x ≡ a = cc in subst P same h.0
 at_number P (x ∷ xs) (suc n) a h e = at_number P xs n a h.1 e
 
 pub makes_derives : MakesDerives
-makes_derives th sts k st scope inst scoped last ds steps to made plain here root none fits is_last derived no_step makes = elim makes [ ]
-makes_derives th sts k st scope inst scoped last ds steps to made plain here root none fits is_last derived
-    (one_step (by_a_rule {r = r} {cited = cited} {form = form} {rule = rule} form_is cited_is rule_here step_is) rest) (makes_node trees trees_are more) =
+makes_derives th sts k st scope inst scoped last ds last_made steps to made plain here root none fits last_derived derived no_step makes = elim makes [ ]
+makes_derives th sts k st scope inst scoped last ds last_made steps to made plain here root none fits last_derived derived
+    (one_step (by_a_rule {r = r} {cited = cited} {form = form} {rule = rule} form_is cited_is rule_here step_is) rest) (makes_node trees other other_here ordinary trees_are more) =
     let rule_plain = at_number (λ (x : Rule). (x.conclusion.context.root ≡ Closed) × AllByRecursion (λ p. p.context.root ≡ Closed) x.premises
         × IsJudgmentScheme th (rule_names x) x.conclusion × AllByRecursion (IsJudgmentScheme th (rule_names x)) x.premises) th.rules r rule plain rule_here in
     let one = rule_step_derives th scope inst r rule form cited trees root none fits rule_here rule_plain.0 rule_plain.1 rule_plain.2 rule_plain.3 form_is step_is
         (cited_zip (λ j d. Derives th d × IsInstance inst j (judgment d)) scoped ds _ cited trees derived cited_is trees_are) in
     let node_is = node r (judgment_instance inst form) (subtrees trees) in
-    makes_derives th sts k st scope inst (scoped ++ form ∷ []) (Some form) (ds ++ node_is ∷ []) _ to made plain here root none fits (scoped, refl)
+    makes_derives th sts k st scope inst (scoped ++ form ∷ []) (Some form) (ds ++ node_is ∷ []) (Some node_is) _ to made plain here root none fits one
         (zip_snoc (λ j d. Derives th d × IsInstance inst j (judgment d)) scoped ds form node_is derived one) rest more
-makes_derives th sts k st scope inst scoped last ds steps to made plain here root none fits is_last derived
-    (one_step (ends {st = other} {form = form} there goal) rest) (makes_last before split) =
+makes_derives th sts k st scope inst scoped last ds last_made steps to made plain here root none fits last_derived derived
+    (one_step (ends {st = other} {form = form} there goal) rest) makes_last =
     let same : other ≡ st = cc in
-    let forms = is_last.1 in
-    let pair = zip_last (λ j d. Derives th d × IsInstance inst j (judgment d)) is_last.0 before form made
-        (subst (λ ys. AllZip (λ j d. Derives th d × IsInstance inst j (judgment d)) (is_last.0 ++ form ∷ []) ys) split
-        (subst (λ xs. AllZip (λ j d. Derives th d × IsInstance inst j (judgment d)) xs ds) forms derived)) in
-    record { form = form; goal = subst (λ (x : Theorem). HasGoal th x scope form) same goal; derives = pair.0; is_instance = pair.1 }
+    record { form = form; goal = subst (λ (x : Theorem). HasGoal th x scope form) same goal; derives = last_derived.0; is_instance = last_derived.1 }

@@ -1,5 +1,5 @@
 -- What right steps keep.
-use Rattle.std.specs.Prelude.{◌≡◌, ℕ, List, [], ◌∷◌, ◌++◌, Option, Some, slice_get, MatchOption}
+use Rattle.std.specs.Prelude.{◌≡◌, ℕ, List, [], Option, Some, slice_get, MatchOption}
 use Rattle.std.specs.List.{AllByRecursion, AllZip}
 use Rattle.scheme_terms.specs.Forms.{Names, Instance}
 use Rattle.scheme_terms.specs.Instance.{FitsScope}
@@ -24,7 +24,7 @@ RuleStepDerives =
     AllZip (λ j d. Derives th d × IsInstance inst j (judgment d)) cited ds →
     Derives th (node r (judgment_instance inst form) (subtrees ds)) × IsInstance inst form (judgment_instance inst form)
 
--- no rule of the theory speaks of a context
+-- no rule of the theory speaks of a context, and its forms are over its names
 abbrev pub SpeaksOfNoContext : Theory → Type 0
 SpeaksOfNoContext th =
     AllByRecursion (λ rule. (rule.conclusion.context.root ≡ Closed) × AllByRecursion (λ p. p.context.root ≡ Closed) rule.premises
@@ -34,9 +34,9 @@ SpeaksOfNoContext th =
 abbrev pub AreDerived : Theory → Instance → List JudgmentScheme → List Derivation → Type 0
 AreDerived th inst = AllZip (λ j d. Derives th d × IsInstance inst j (judgment d))
 
--- the form of the last step, where there is one, is the last in scope
-abbrev pub IsLastOf : List JudgmentScheme → Option JudgmentScheme → Type 0
-IsLastOf scoped last = MatchOption last (Unit {0}) (λ form. (before : List JudgmentScheme) × (scoped ≡ before ++ form ∷ []))
+-- the derivation of the last step, where there is one, is that of an instance of the last step's form
+abbrev pub LastIsDerived : Theory → Instance → (last : Option JudgmentScheme) → Option Derivation → Type 0
+LastIsDerived th inst last made = MatchOption made (Unit {0}) (λ d. MatchOption last ⊥ (λ form. Derives th d × IsInstance inst form (judgment d)))
 
 -- a derivation of an instance of a form that has the goal
 pub record DerivesGoal (th : Theory) (st : Theorem) (scope : Names) (inst : Instance) (made : Derivation) : Type 0 where
@@ -49,7 +49,7 @@ pub record DerivesGoal (th : Theory) (st : Theorem) (scope : Names) (inst : Inst
 abbrev pub MakesDerives : Type 0
 MakesDerives =
     (th : Theory) (statements : List Theorem) (k : ℕ) (st : Theorem) (scope : Names) (inst : Instance) (scoped : List JudgmentScheme)
-    (last : Option JudgmentScheme) (ds : List Derivation) (steps : List Step) (to : Standing) (made : Derivation) →
+    (last : Option JudgmentScheme) (ds : List Derivation) (last_made : Option Derivation) (steps : List Step) (to : Standing) (made : Derivation) →
     SpeaksOfNoContext th → slice_get statements k ≡ Some st → scope.root ≡ Closed → scope.knowns ≡ [] → FitsScope th.sig scope inst →
-    IsLastOf scoped last → AreDerived th inst scoped ds →
-    Leads th statements (within k scope scoped last) steps to → Makes inst ds steps made → DerivesGoal th st scope inst made
+    LastIsDerived th inst last last_made → AreDerived th inst scoped ds →
+    Leads th statements (within k scope scoped last) steps to → Makes th inst ds last_made steps made → DerivesGoal th st scope inst made

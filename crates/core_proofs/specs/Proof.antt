@@ -1,9 +1,9 @@
 -- Which steps can stand one after another, and when each is right. To be held against docs/notation.md, 'Steps'.
-use Rattle.std.specs.Prelude.{◌≡◌, ◌≤◌, ℕ, zero, suc, List, [], ◌∷◌, ◌++◌, length, map, Option, Some, None, slice_get}
+use Rattle.std.specs.Prelude.{◌≡◌, ◌≤◌, ℕ, suc, List, [], ◌∷◌, ◌++◌, length, map, Option, Some, None, slice_get}
 use Rattle.binding_terms.specs.Numbered.{AllNumbered}
-use Rattle.scheme_terms.specs.SchemeTree.{SchemeTree, meta, local, values}
+use Rattle.scheme_terms.specs.SchemeTree.{SchemeTree, meta, values}
 use Rattle.scheme_terms.specs.Forms.{Names, Substitution}
-use Rattle.scheme_terms.specs.Substituting.{applied, IsSubstitution}
+use Rattle.scheme_terms.specs.Substituting.{applied, params, parameters, IsSubstitution}
 use Rattle.scheme_terms.specs.SchemeScope.{StandsWith}
 use Rattle.scheme_terms.specs.declared.scheme.MetaDecl.{MetaDecl}
 use Rattle.rule_schemes.specs.Rules.{JudgmentScheme, Rule, Theory, IsJudgmentScheme, MayStand, ENTRIES}
@@ -21,12 +21,8 @@ pub record IsProofScope (st : Theorem) (scope : Names) : Type 0 where
   pub further : AllNumbered (λ m decl. IsOfInputs st m → ⊥) (length scope.metas) goal_names
 
 -- a metavariable that stands for itself: applied to its parameters, the last innermost
-abbrev pub own_params : ℕ → List SchemeTree
-own_params zero = []
-own_params (suc n) = local n ∷ own_params n
-
 abbrev pub itself : (number : ℕ) → MetaDecl → SchemeTree
-itself m decl = meta m (values (own_params (length decl.params)))
+itself m decl = meta m (values (parameters (params decl)))
 
 -- a conclusion with schemes for its names
 abbrev pub applied_judgment : Substitution → JudgmentScheme → JudgmentScheme

@@ -4,7 +4,7 @@ use Rattle.std.specs.List.{AllZip}
 use Rattle.binding_terms.specs.Signature.{Signature}
 use Rattle.scheme_terms.specs.Forms.{SchemeEntry, SchemeContext, Names, Substitution}
 use Rattle.scheme_terms.specs.SchemeScope.{entry_variables}
-use Rattle.scheme_terms.specs.Substituting.{applied, IsSubstitution}
+use Rattle.scheme_terms.specs.Substituting.{applied, applied_entry, IsSubstitution}
 use Rattle.scheme_terms.specs.declared.scheme.Root.{Root}
 use Rattle.scheme_terms.specs.declared.scheme.Root.TheVariants.{Closed, Empty, Whole}
 use Rattle.rule_schemes.specs.Rules.{JudgmentScheme, Rule, Theory, IsAssumption, rule_names}
@@ -25,8 +25,7 @@ entries_in ctx (Whole c) = ctx.entries
 -- the entries of a form under a substitution, with so many entries before them
 abbrev pub applied_entries : Substitution → (before : ℕ) → List SchemeEntry → List SchemeEntry
 applied_entries by n [] = []
-applied_entries by n (e ∷ es) =
-    record { prod = e.prod; args = map (applied by.metas by.knowns n) e.args } ∷ applied_entries by (n + 1) es
+applied_entries by n (e ∷ es) = applied_entry by n e ∷ applied_entries by (n + 1) es
 
 -- a form of a rule in a step's context, with schemes for its names
 abbrev pub form_in : SchemeContext → Substitution → JudgmentScheme → JudgmentScheme

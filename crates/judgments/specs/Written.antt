@@ -1,13 +1,13 @@
 -- The rule and the statement for which written forms stand. To be held against docs/notation.md, 'Readings' and 'Rules and statements'.
-use Rattle.std.specs.Prelude.{◌≡◌, ◌≤◌, ◌⊎◌, ℕ, List, [], ◌∷◌, ◌++◌, length, map, flat_map, slice_get, Some}
-use Rattle.std.specs.List.{AllByRecursion, AllZip}
+use Rattle.std.specs.Prelude.{◌≡◌, ◌≤◌, ◌⊎◌, ℕ, List, [], ◌∷◌, ◌++◌, length, map, flat_map, slice_get, MatchOption}
+use Rattle.std.specs.List.{AllZip}
 use Rattle.binding_terms.specs.Numbered.{AnyByRecursion, AllNumbered}
 use Rattle.binding_terms.specs.Signature.{Signature}
 use Rattle.scheme_terms.specs.Forms.{Names}
 use Rattle.scheme_terms.specs.declared.scheme.Root.{Root}
 use Rattle.scheme_terms.specs.declared.scheme.MetaDecl.{MetaDecl}
 use Rattle.rule_schemes.specs.Rules.{JudgmentScheme, Rule}
-use Rattle.rule_schemes.specs.Statement.{StatementInput, given, syntax_input, Theorem, OccursInJudgment, OccursInInput}
+use Rattle.rule_schemes.specs.Statement.{StatementInput, given, syntax_input, Theorem, OccursInJudgment, OccursInInput, IsOfInputs, IsOfOutputs}
 use Rattle.rule_schemes.specs.Reading.{Token, word, not_fresh, ReadingScope}
 use Rattle.rule_schemes.specs.NewNames.{AreInOrder}
 use Rattle.rule_schemes.specs.Said.{Want, want_judgment, Written, a_judgment, Said, HasOneReading}
@@ -39,6 +39,7 @@ OccursInRule m rule = AnyByRecursion (OccursInJudgment m) rule.premises ⊎ Occu
 -- of their first place.
 pub record IsRuleOf (sig : Signature) (js : List Judgment) (root : Root) (name : List ℕ) (forms : List (List Token)) (rule : Rule) : Type 0 where
   pub named : rule.name ≡ name
+  pub root_is : rule.conclusion.context.root ≡ root
   pub unread : List MetaDecl
   pub names : AreNamesOf sig forms (rule.metas ++ unread)
   pub in_order : AreInOrder (flat_map (λ form. form) forms) rule.metas
@@ -65,22 +66,33 @@ term_words (for_term w ∷ inputs) = (word w ∷ []) ∷ term_words inputs
 -- the input for which a written one stands
 abbrev pub IsInputOf : Signature → List Judgment → Names → WrittenInput → StatementInput → Type 0
 IsInputOf sig js names (for_derivation name form) (given j) = ReadsOnlyAs sig js names form j
-IsInputOf sig js names (for_term w) (syntax_input m) =
-    AnyByRecursion (λ decl. (decl.name ≡ w) × (slice_get names.metas m ≡ Some decl)) names.metas
+IsInputOf sig js names (for_term w) (syntax_input m) = MatchOption (slice_get names.metas m) ⊥ (λ decl. decl.name ≡ w)
 IsInputOf sig js names _ _ = ⊥
 
 abbrev pub OccursInStatement : ℕ → Theorem → Type 0
 OccursInStatement m st = AnyByRecursion (OccursInInput m) st.inputs ⊎ AnyByRecursion (OccursInJudgment m) st.outputs
 
--- A statement for which its name, its inputs and its conclusions stand.
-pub record IsStatementOf (sig : Signature) (js : List Judgment) (root : Root) (name : List ℕ) (inputs : List WrittenInput) (outputs : List (List Token)) (st : Theorem) : Type 0 where
+abbrev pub input_name : WrittenInput → List ℕ
+input_name (for_derivation name form) = name
+input_name (for_term w) = w
+
+-- A statement for which its name, its inputs, its conclusions, its targets and the number of its group stand. The metavariables of the
+-- inputs come first, and then the further ones of the conclusions, each in the order of their first place.
+pub record IsStatementOf (sig : Signature) (js : List Judgment) (root : Root) (name : List ℕ) (inputs : List WrittenInput) (outputs : List (List Token)) (targets : List (List ℕ)) (group : ℕ) (st : Theorem) : Type 0 where
   pub named : st.name ≡ name
   pub root_is : st.scope.root ≡ root
   pub no_known : st.scope.knowns ≡ []
   pub unread : List MetaDecl
   pub names : AreNamesOf sig (term_words inputs ++ (map input_tokens inputs ++ outputs)) (st.scope.metas ++ unread)
-  pub in_order : AreInOrder (flat_map (λ form. form) (map input_tokens inputs ++ outputs)) st.scope.metas
-  pub used : AllNumbered (λ m decl. OccursInStatement m st) 0 st.scope.metas
+  pub of_inputs : List MetaDecl
+  pub further : List MetaDecl
+  pub split : st.scope.metas ≡ of_inputs ++ further
+  pub are_of_inputs : AllNumbered (λ m decl. IsOfInputs st m) 0 of_inputs
+  pub are_further : AllNumbered (λ m decl. (IsOfInputs st m → ⊥) × IsOfOutputs st m) (length of_inputs) further
+  pub inputs_in_order : AreInOrder (flat_map (λ form. form) (map input_tokens inputs)) of_inputs
+  pub further_in_order : AreInOrder (flat_map (λ form. form) outputs) further
   pub unused : AllNumbered (λ m decl. OccursInStatement m st → ⊥) (length st.scope.metas) unread
   pub reads_inputs : AllZip (IsInputOf sig js (names_over root st.scope.metas unread)) inputs st.inputs
+  pub targets_are : AllZip (λ w n. MatchOption (slice_get inputs n) ⊥ (λ input. input_name input ≡ w)) targets st.targets
+  pub group_is : st.group ≡ group
   pub reads_outputs : AllZip (ReadsOnlyAs sig js (names_over root st.scope.metas unread)) outputs st.outputs
