@@ -1,4 +1,7 @@
 // The grammar of a file: what each phrase may begin with, and what follows.
+ghost use Rattle.std.specs.Prelude.{◌≡◌};
+ghost use Rattle.outline_reader.specs.Grammar as spec;
+
 use crate::fault::Part;
 use crate::sort::Sort;
 use crate::symbols::Class::Is;
@@ -8,7 +11,9 @@ use crate::symbols::Symbol::{Choice, One};
 use crate::symbols::{Alternative, Class, Item, Phrase, Rest, Role, Times};
 
 /// How often alternatives of the phrase are taken.
-pub fn times(phrase: Phrase) -> Times {
+pub fn times(phrase: Phrase) -> Times
+    ensures { result ≡ spec.times_of phrase }
+{
     match phrase {
         Phrase::AndKind
         | Phrase::TheoremBody
@@ -41,7 +46,9 @@ pub fn times(phrase: Phrase) -> Times {
 }
 
 /// The alternatives of a phrase.
-pub fn alternatives(phrase: Phrase) -> &'static [Alternative] {
+pub fn alternatives(phrase: Phrase) -> &'static [Alternative]
+    ensures { result.now ≡ spec.alternatives phrase }
+{
     match phrase {
         Phrase::Parts => &[(First, Is(Sort::Terminals), Role::TerminalsWord, Rest::Terminals), (First, Is(Sort::Syntax), Role::SyntaxWord, Rest::Syntax), (First, Is(Sort::Judgment), Role::JudgmentWord, Rest::Judgment)],
         Phrase::FirstTheorem => &[(First, Is(Sort::Theorem), Role::TheoremWord, Rest::FirstTheorem), (First, Is(Sort::Lemma), Role::TheoremWord, Rest::FirstLemma)],
@@ -86,7 +93,9 @@ pub fn alternatives(phrase: Phrase) -> &'static [Alternative] {
 }
 
 /// The symbols that an alternative has after its first token.
-pub fn symbols(rest: Rest) -> &'static [Item] {
+pub fn symbols(rest: Rest) -> &'static [Item]
+    ensures { result.now ≡ spec.items rest }
+{
     match rest {
         Rest::Nothing => &[],
         Rest::Terminals => &[In(Part::Terminals, One(Next, Class::Listed, Role::Item)), In(Part::Terminals, Choice(Phrase::MoreListed))],

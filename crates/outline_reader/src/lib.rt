@@ -13,7 +13,6 @@ mod sort;
 mod symbols;
 #[cfg(test)]
 mod tests;
-
 pub use fault::{Limit, OutlineFault, Part};
 pub use parts::{ArgText, Form, InputText, Just, Name, NamedForm, Outline, Portion};
 pub use reader::outline;

@@ -1,4 +1,7 @@
 // What a token is for the outline.
+ghost use Rattle.std.specs.Prelude.{◌≡◌, map};
+ghost use Rattle.outline_reader.specs.Sorts as spec;
+
 use proof_lexer::{Kind, Token};
 
 /// What a token is for the outline.
@@ -94,7 +97,9 @@ pub const SIGNS: [(&[u8], Sort); 7] = [
 ];
 
 /// The sort that a table gives a text, or else the other sort.
-fn look_up(mut table: &[(&[u8], Sort)], text: &[u8], otherwise: Sort) -> Sort {
+fn look_up(mut table: &[(&[u8], Sort)], text: &[u8], otherwise: Sort) -> Sort
+    ensures { result ≡ spec.look_up (map (λ entry. (entry.0.now, entry.1)) table.entry.now) text.now otherwise }
+{
     while let [entry, rest @ ..] = table {
         if entry.0 == text {
             return entry.1;
@@ -105,7 +110,9 @@ fn look_up(mut table: &[(&[u8], Sort)], text: &[u8], otherwise: Sort) -> Sort {
 }
 
 /// Whether a word that begins so is no numeral.
-fn begins_name(text: &str) -> bool {
+fn begins_name(text: &str) -> bool
+    ensures { result ≡ spec.begins_name text.now }
+{
     match text.chars().next() {
         Some(first) => first == '_' || unicode_ident::is_xid_start(first),
         None => false,
@@ -113,7 +120,9 @@ fn begins_name(text: &str) -> bool {
 }
 
 /// What the token is for the outline.
-pub fn sort_of(token: &Token<'_>) -> Sort {
+pub fn sort_of(token: &Token<'_>) -> Sort
+    ensures { result ≡ spec.sort_of token.now }
+{
     let text = token.text;
     match token.kind {
         Kind::Word => {

@@ -1,0 +1,4 @@
+pub mod Sorts
+pub mod Grammar
+pub mod Derives
+pub mod Machine
