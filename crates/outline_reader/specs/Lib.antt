@@ -2,3 +2,5 @@ pub mod Sorts
 pub mod Grammar
 pub mod Derives
 pub mod Machine
+pub mod Limits
+pub mod Reading

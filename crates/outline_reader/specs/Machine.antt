@@ -44,3 +44,8 @@ may_be_left_out (Choice phrase) = not (is_once (times_of phrase))
 abbrev pub missing : List Awaited → Option Part
 missing [] = None
 missing (next ∷ rest) = if may_be_left_out next.symbol then missing rest else Some next.within
+
+-- what one step of reading answers
+abbrev pub Takes : List Awaited → Seen → List Awaited → Option Role → Type 0
+Takes old seen new None = take old seen ≡ None
+Takes old seen new (Some role) = take old seen ≡ Some (role, new)

@@ -61,11 +61,14 @@ abbrev pub first_begins_name : List ℕ → Bool
 first_begins_name [] = false
 first_begins_name (first ∷ rest) = (first == 95) || is_xid_start first
 
-unfoldable pub begins_name : List ℕ → Bool
+abbrev pub begins_name : List ℕ → Bool
 begins_name text = first_begins_name (chars text)
 
+unfoldable pub word_sort : List ℕ → Sort
+word_sort word = look_up reserved word (if begins_name word then s.Name else s.Other)
+
 abbrev pub sort_by : Kind → List ℕ → Sort
-sort_by kind.Word text = look_up reserved text (if begins_name text then s.Name else s.Other)
+sort_by kind.Word text = word_sort text
 sort_by kind.Symbol text = look_up signs text s.Other
 sort_by kind.Punct text = look_up signs text s.Mark
 sort_by kind.Bar text = s.Bar

@@ -2,17 +2,12 @@
 #![tactic(auto)]
 
 mod fault;
-mod fields;
 mod grammar;
 mod limits;
 mod machine;
-mod parts;
-mod portions;
 mod reader;
 mod sort;
 mod symbols;
-#[cfg(test)]
-mod tests;
 pub use fault::{Limit, OutlineFault, Part};
-pub use parts::{ArgText, Form, InputText, Just, Name, NamedForm, Outline, Portion};
-pub use reader::outline;
+pub use reader::roles_of;
+pub use symbols::Role;

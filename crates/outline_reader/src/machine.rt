@@ -1,4 +1,9 @@
 // Reads tokens by the grammar, one after another.
+ghost use Rattle.std.specs.Prelude.{◌≡◌, ◌∷◌, [], map, reverse, IfOk, IfErr, OnOk, ◌++◌};
+ghost use Rattle.outline_reader.specs.Derives.{is_formed, has, fits, await, is_level, level, whole};
+ghost use Rattle.outline_reader.specs.Machine as spec;
+ghost use Rattle.outline_reader.specs.Machine.{Takes};
+
 use crate::fault::{OutlineFault, Part};
 use crate::grammar::{alternatives, symbols, times};
 use crate::sort::Sort;
@@ -20,7 +25,9 @@ pub struct Awaited {
 }
 
 /// Whether the sort is one of a form's: all but those of the reserved words.
-fn is_formed(sort: Sort) -> bool {
+fn is_formed(sort: Sort) -> bool
+    ensures { result ≡ is_formed sort }
+{
     match sort {
         Sort::Name
         | Sort::Colon
@@ -38,7 +45,9 @@ fn is_formed(sort: Sort) -> bool {
 }
 
 /// Whether the class has tokens of the sort.
-fn has(class: Class, sort: Sort) -> bool {
+fn has(class: Class, sort: Sort) -> bool
+    ensures { result ≡ has class sort }
+{
     match class {
         Class::Is(one) => sort == one,
         Class::Listed => match sort {
@@ -56,7 +65,9 @@ fn has(class: Class, sort: Sort) -> bool {
 }
 
 /// Whether the token may stand at the place and is of the class.
-fn fits(place: Place, class: Class, seen: Seen) -> bool {
+fn fits(place: Place, class: Class, seen: Seen) -> bool
+    ensures { result ≡ fits place class seen }
+{
     let stands = match place {
         Place::First => seen.begins,
         Place::Next => !seen.begins,
@@ -66,7 +77,9 @@ fn fits(place: Place, class: Class, seen: Seen) -> bool {
 }
 
 /// The first alternative that the token begins.
-fn chosen(alternatives: &[Alternative], seen: Seen) -> Option<(Role, Rest)> {
+fn chosen(alternatives: &[Alternative], seen: Seen) -> Option<(Role, Rest)>
+    ensures { result ≡ spec.chosen alternatives.now seen }
+{
     for (place, class, role, rest) in alternatives {
         if fits(*place, *class, seen) {
             return Some((*role, *rest));
@@ -75,20 +88,38 @@ fn chosen(alternatives: &[Alternative], seen: Seen) -> Option<(Role, Rest)> {
     None
 }
 
-/// Puts what an alternative has after its first token on the stack, its first symbol on top.
-fn open(stack: &mut Vec<Awaited>, within: Part, items: &[Item]) -> Result<(), OutlineFault> {
+/// The symbol that an item stands for, where it is written within this part.
+fn written(within: Part, item: Item) -> Awaited
+    ensures { result ≡ await within item }
+{
+    match item {
+        Item::Here(symbol) => Awaited { within, symbol },
+        Item::In(part, symbol) => Awaited { within: part, symbol },
+    }
+}
+
+/// Puts symbols on the stack, the first on top.
+#[tactic(auto, using(crate::proofs::StackLemmas::reverse_push))]
+fn open(
+    stack: &mut Vec<Awaited>,
+    within: Part,
+    items: &[Item],
+) -> Result<(), OutlineFault>
+    ensures ok { OnOk result (reverse stack.new.items ≡ map (await within) items.now ++ reverse stack.old.items) }
+    ensures err { IfErr result (λ e. e ≡ OutlineFault.NoMemory) }
+{
     for item in items.iter().rev() {
-        let awaited = match *item {
-            Item::Here(symbol) => Awaited { within, symbol },
-            Item::In(part, symbol) => Awaited { within: part, symbol },
-        };
-        stack.push(awaited)?;
+        stack.push(written(within, *item))?;
     }
     Ok(())
 }
 
 /// Takes one token: what it is in the outline, or nothing where no outline goes on at it. The next symbol is on top of the stack.
-pub fn take(stack: &mut Vec<Awaited>, seen: Seen) -> Result<Option<Role>, OutlineFault> {
+#[tactic(auto, using(crate::proofs::StackLemmas::reverse_push))]
+pub fn take(stack: &mut Vec<Awaited>, seen: Seen) -> Result<Option<Role>, OutlineFault>
+    ensures ok { IfOk result (Takes (reverse stack.old.items) seen (reverse stack.new.items)) }
+    ensures err { IfErr result (λ e. e ≡ OutlineFault.NoMemory) }
+{
     while let Some(next) = stack.pop() {
         match next.symbol {
             Symbol::One(place, class, role) => {
@@ -112,7 +143,9 @@ pub fn take(stack: &mut Vec<Awaited>, seen: Seen) -> Result<Option<Role>, Outlin
 }
 
 /// Whether nothing need come for the symbol.
-fn may_be_left_out(symbol: Symbol) -> bool {
+fn may_be_left_out(symbol: Symbol) -> bool
+    ensures { result ≡ spec.may_be_left_out symbol }
+{
     match symbol {
         Symbol::One(..) => false,
         Symbol::Choice(phrase) => times(phrase) != Times::Once,
@@ -120,31 +153,50 @@ fn may_be_left_out(symbol: Symbol) -> bool {
 }
 
 /// The part of the first symbol that must still come.
-pub fn missing(stack: &[Awaited]) -> Option<Part> {
-    for awaited in stack.iter().rev() {
-        if !may_be_left_out(awaited.symbol) {
-            return Some(awaited.within);
+#[tactic(auto, using(crate::proofs::StackLemmas::reverse_push))]
+pub fn missing(mut stack: Vec<Awaited>) -> Option<Part>
+    ensures { result ≡ spec.missing (reverse stack.items) }
+{
+    while let Some(next) = stack.pop() {
+        if !may_be_left_out(next.symbol) {
+            return Some(next.within);
         }
     }
     None
 }
 
-/// How many blocks and inversions are open.
-pub fn level(stack: &[Awaited]) -> usize {
-    stack
-        .iter()
-        .filter(|awaited| match awaited.symbol {
-            Symbol::Choice(Phrase::CaseList) | Symbol::Choice(Phrase::Inverted) => true,
-            _ => false,
-        })
-        .count()
+/// Whether the symbol stands for a block or an inversion that is open.
+fn is_level(symbol: Symbol) -> bool
+    ensures { result ≡ is_level symbol }
+{
+    match symbol {
+        Symbol::Choice(Phrase::CaseList) | Symbol::Choice(Phrase::Inverted) => true,
+        _ => false,
+    }
 }
 
-/// What a file is: parts, and after the first theorem others. The part is never named, since nothing need come.
-pub fn whole(alloc: Global) -> Result<Vec<Awaited>, OutlineFault> {
-    let mut stack = Vec::new(alloc);
-    for phrase in [Phrase::FirstTheorem, Phrase::Parts] {
-        stack.push(Awaited { within: Part::Terminals, symbol: Symbol::Choice(phrase) })?;
+/// How many blocks and inversions are open.
+#[tactic(auto, using(crate::proofs::StackLemmas::level_reverse))]
+pub fn level(stack: &[Awaited]) -> usize
+    ensures { result ≡ level (reverse stack.now) }
+{
+    let mut levels = 0;
+    for awaited in stack {
+        if is_level(awaited.symbol) {
+            levels += 1;
+        }
     }
+    levels
+}
+
+/// What a file is. Its first symbol is on top.
+#[tactic(auto, using(crate::proofs::StackLemmas::reverse_push))]
+pub fn whole(alloc: Global) -> Result<Vec<Awaited>, OutlineFault>
+    ensures ok { IfOk result (λ stack. reverse stack.items ≡ whole) }
+    ensures err { IfErr result (λ e. e ≡ OutlineFault.NoMemory) }
+{
+    let mut stack = Vec::new(alloc);
+    stack.push(Awaited { within: Part::Terminals, symbol: Symbol::Choice(Phrase::FirstTheorem) })?;
+    stack.push(Awaited { within: Part::Terminals, symbol: Symbol::Choice(Phrase::Parts) })?;
     Ok(stack)
 }

@@ -1,59 +1,81 @@
 // The outline of a list of tokens.
-use crate::fault::OutlineFault;
+ghost use Rattle.std.specs.Prelude.{◌≡◌, ◌≢◌, ◌<◌, ◌^◌, IfErr};
+ghost use Rattle.outline_reader.specs.Derives.{begins_line};
+ghost use Rattle.outline_reader.specs.Reading as spec;
+ghost use Rattle.outline_reader.specs.Reading.{Gives};
+
+use crate::fault::{OutlineFault, Part};
 use crate::limits::Counts;
-use crate::machine::{Awaited, Seen, missing, take, whole};
-use crate::parts::Outline;
-use crate::portions::portions;
+use crate::machine::{Seen, missing, take, whole};
 use crate::sort::sort_of;
 use crate::symbols::Role;
 use proof_lexer::Token;
 use std::alloc::Global;
 
-/// The fault of a text whose reading ends so at this line: the limit that was passed on an earlier line, or else this one.
-fn earlier(passed: Counts, line: u32, fault: OutlineFault) -> OutlineFault {
-    match passed.passed {
-        Some((at, limit)) => {
-            if at == line { fault } else { OutlineFault::TooMany(at, limit) }
-        }
-        None => fault,
+/// Whether a token on the line begins it, where the token before it is on that other line.
+fn begins_line(before: Option<u32>, line: u32) -> bool
+    ensures { result ≡ begins_line before line }
+{
+    match before {
+        Some(other) => line != other,
+        None => true,
     }
 }
 
-fn unexpected(place: usize) -> OutlineFault {
-    match u32::try_from(place) {
-        Ok(place) => OutlineFault::Unexpected(place),
-        Err(_) => OutlineFault::NoMemory,
+/// The limit that was passed, but where that was at this line, the line's own fault.
+fn first_fault(counts: Counts, line: u32, fault: OutlineFault) -> OutlineFault
+    ensures { result ≡ spec.first_fault counts line fault }
+{
+    match counts.passed {
+        Some((at, limit)) if at != line => OutlineFault::TooMany(at, limit),
+        _ => fault,
     }
 }
 
 /// What each token is in the outline.
-fn roles_of(alloc: Global, tokens: &[Token<'_>]) -> Result<Vec<Role>, OutlineFault> {
+pub fn roles_of(alloc: Global, tokens: &[Token<'_>]) -> Result<Vec<Role>, OutlineFault>
+    ensures { Gives (λ roles. roles.items) result (spec.roles tokens.now) }
+{
     let mut stack = whole(alloc)?;
     let mut counts = Counts::new();
     let mut roles = Vec::new(alloc);
     let mut before = None;
     for token in tokens {
-        let seen = Seen { sort: sort_of(token), begins: before != Some(token.line) };
+        let seen = Seen { sort: sort_of(token), begins: begins_line(before, token.line) };
         before = Some(token.line);
-        match take(&mut stack, seen)? {
-            Some(role) => {
-                counts.count(role, token.line, &stack);
-                roles.push(role)?;
-            }
-            None => return Err(earlier(counts, token.line, unexpected(roles.len()))),
-        }
+        let Some(role) = take(&mut stack, seen)? else {
+            return Err(unexpected(counts, token.line, roles.len()));
+        };
+        counts = counts.count(role, token.line, &stack);
+        roles.push(role)?;
     }
-    match (missing(&stack), before) {
-        (Some(part), Some(line)) => Err(earlier(counts, line, OutlineFault::MissingEnd(line, part))),
+    at_end(counts, before, missing(stack), roles)
+}
+
+/// The fault of a text that no outline goes on at this token.
+fn unexpected(counts: Counts, line: u32, place: usize) -> OutlineFault
+    ensures { result ≢ OutlineFault.NoMemory → result ≡ spec.first_fault counts line (OutlineFault.Unexpected place) }
+{
+    match u32::try_from(place) {
+        Ok(place) => first_fault(counts, line, OutlineFault::Unexpected(place)),
+        Err(_) => OutlineFault::NoMemory,
+    }
+}
+
+/// The answer at the end of the text.
+fn at_end(
+    counts: Counts,
+    before: Option<u32>,
+    missing: Option<Part>,
+    roles: Vec<Role>,
+) -> Result<Vec<Role>, OutlineFault>
+    ensures { Gives (λ roles. roles.items) result (spec.with_roles roles.items (spec.at_end counts before missing)) }
+{
+    match (missing, before) {
+        (Some(part), Some(line)) => Err(first_fault(counts, line, OutlineFault::MissingEnd(line, part))),
         _ => match counts.passed {
             Some((line, limit)) => Err(OutlineFault::TooMany(line, limit)),
             None => Ok(roles),
         },
     }
-}
-
-/// The outline of the tokens.
-pub fn outline<'a>(alloc: Global, tokens: &'a Vec<Token<'a>>) -> Result<Outline<'a>, OutlineFault> {
-    let roles = roles_of(alloc, tokens)?;
-    Ok(Outline { parts: portions(alloc, &roles, tokens)? })
 }

@@ -119,18 +119,26 @@ fn begins_name(text: &str) -> bool
     }
 }
 
+/// What a word is.
+#[tactic(auto, unfolding(crate::specs::Sorts::word_sort))]
+fn word_sort(word: &str) -> Sort
+    ensures { result ≡ spec.word_sort word.now }
+{
+    if begins_name(word) {
+        return look_up(&RESERVED, word.as_bytes(), Sort::Name);
+    }
+    look_up(&RESERVED, word.as_bytes(), Sort::Other)
+}
+
 /// What the token is for the outline.
+#[tactic(auto, unfolding(crate::specs::Sorts::sort_of))]
 pub fn sort_of(token: &Token<'_>) -> Sort
     ensures { result ≡ spec.sort_of token.now }
 {
-    let text = token.text;
     match token.kind {
-        Kind::Word => {
-            let other = if begins_name(text) { Sort::Name } else { Sort::Other };
-            look_up(&RESERVED, text.as_bytes(), other)
-        }
-        Kind::Symbol => look_up(&SIGNS, text.as_bytes(), Sort::Other),
-        Kind::Punct => look_up(&SIGNS, text.as_bytes(), Sort::Mark),
+        Kind::Word => word_sort(token.text),
+        Kind::Symbol => look_up(&SIGNS, token.text.as_bytes(), Sort::Other),
+        Kind::Punct => look_up(&SIGNS, token.text.as_bytes(), Sort::Mark),
         Kind::Bar => Sort::Bar,
         Kind::Quoted => Sort::Other,
     }
