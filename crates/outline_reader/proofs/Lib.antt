@@ -1,2 +1,5 @@
 pub mod StackLemmas
 pub mod ReadingLemmas
+pub mod TakeLemmas
+pub mod OrderLemmas
+pub mod CompletionLemmas

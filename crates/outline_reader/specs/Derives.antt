@@ -129,21 +129,25 @@ pub data IsOneOf (one : Alternative) : List Alternative → Type 0 where
   first : (rest : List Alternative) → IsOneOf one (one ∷ rest)
   later : (other : Alternative) (rest : List Alternative) → IsOneOf one rest → IsOneOf one (other ∷ rest)
 
--- The symbols are written as these tokens, which are marked so.
-pub data Derives : List Awaited → List Seen → List Mark → Type 0 where
-  -- nothing is left
-  nothing : Derives [] [] []
+-- The symbols are written as these tokens, which are marked so, up to those that are left to come.
+pub data Reaches (left : List Awaited) : List Awaited → List Seen → List Mark → Type 0 where
+  -- nothing was written
+  here : Reaches left left [] []
   -- one token stands for a symbol
   token : (within : Part) (place : Place) (class : Class) (role : Role) (rest : List Awaited) (one : Seen) (more : List Seen) (marks : List Mark) →
-      fits place class one ≡ true → Derives rest more marks →
-      Derives (record { within = within; symbol = One place class role } ∷ rest) (one ∷ more) (record { role = role; level = level rest } ∷ marks)
+      fits place class one ≡ true → Reaches left rest more marks →
+      Reaches left (record { within = within; symbol = One place class role } ∷ rest) (one ∷ more) (record { role = role; level = level rest } ∷ marks)
   -- an alternative of a phrase begins
   alternative : (within : Part) (phrase : Phrase) (rest : List Awaited) (place : Place) (class : Class) (role : Role) (what : Rest) (one : Seen) (more : List Seen) (marks : List Mark) →
-      IsOneOf (place, class, role, what) (alternatives phrase) → fits place class one ≡ true → Derives (opened within phrase what ++ rest) more marks →
-      Derives (record { within = within; symbol = Choice phrase } ∷ rest) (one ∷ more) (record { role = role; level = level (opened within phrase what ++ rest) } ∷ marks)
+      IsOneOf (place, class, role, what) (alternatives phrase) → fits place class one ≡ true → Reaches left (opened within phrase what ++ rest) more marks →
+      Reaches left (record { within = within; symbol = Choice phrase } ∷ rest) (one ∷ more) (record { role = role; level = level (opened within phrase what ++ rest) } ∷ marks)
   -- no alternative of a phrase comes, or no further one
   left_out : (within : Part) (phrase : Phrase) (rest : List Awaited) (more : List Seen) (marks : List Mark) →
-      times_of phrase ≢ times.Once → Derives rest more marks → Derives (record { within = within; symbol = Choice phrase } ∷ rest) more marks
+      times_of phrase ≢ times.Once → Reaches left rest more marks → Reaches left (record { within = within; symbol = Choice phrase } ∷ rest) more marks
+
+-- the symbols are written as these tokens, which are marked so, and nothing is left to come
+abbrev pub Derives : List Awaited → List Seen → List Mark → Type 0
+Derives awaited tokens marks = Reaches [] awaited tokens marks
 
 -- a file: parts, and after the first theorem others. The part of these two is never told, since nothing need come for them.
 abbrev pub whole : List Awaited

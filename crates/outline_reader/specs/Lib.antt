@@ -4,3 +4,4 @@ pub mod Derives
 pub mod Machine
 pub mod Limits
 pub mod Reading
+pub mod Laws

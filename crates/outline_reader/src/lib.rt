@@ -3,11 +3,13 @@
 
 mod fault;
 mod grammar;
+mod laws;
 mod limits;
 mod machine;
 mod reader;
 mod sort;
 mod symbols;
 pub use fault::{Limit, OutlineFault, Part};
+pub use laws::{take_is_derived, trial};
 pub use reader::roles_of;
 pub use symbols::Role;
