@@ -3,3 +3,4 @@ pub mod ReadingLemmas
 pub mod TakeLemmas
 pub mod OrderLemmas
 pub mod CompletionLemmas
+pub mod AnswerLemmas

@@ -121,7 +121,7 @@ not_both x y one e f g = by_cases (or_cases (places_apart x.0 y.0) (classes_apar
     by_cases (inl h) = places_not_both x.0 y.0 one.begins h (and_left _ _ f) (and_left _ _ g)
     by_cases (inr h) = classes_not_both x.1 y.1 one.sort h (and_right (stands x.0 one.begins) _ f) (and_right (stands y.0 one.begins) _ g)
 
-to_false : (b : Bool) → (b ≡ true → ⊥) → b ≡ false
+pub to_false : (b : Bool) → (b ≡ true → ⊥) → b ≡ false
 to_false true h = absurd (h refl)
 to_false false h = refl
 

@@ -5,3 +5,4 @@ pub mod Machine
 pub mod Limits
 pub mod Reading
 pub mod Laws
+pub mod Outline

@@ -1,7 +1,5 @@
-use Rattle.outline_reader.proofs.OrderLemmas.{whole_ordered, told}
-use Rattle.outline_reader.proofs.TakeLemmas.{take_reaches}
-use Rattle.outline_reader.proofs.CompletionLemmas.{completes}
+use Rattle.outline_reader.proofs.AnswerLemmas.{read_is_answer}
 use Rattle.outline_reader.proofs.laws.trial.Goals as goal
 
 pub returns : goal.returns
-returns c = let f = whole_ordered in let g = completes in 0
+returns c = let f = read_is_answer in 0
