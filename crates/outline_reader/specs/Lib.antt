@@ -6,3 +6,5 @@ pub mod Limits
 pub mod Reading
 pub mod Laws
 pub mod Outline
+pub mod Fields
+pub mod Views

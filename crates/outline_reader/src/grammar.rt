@@ -135,7 +135,7 @@ pub fn symbols(rest: Rest) -> &'static [Item]
         Rest::Induction => &[Here(Choice(Phrase::Arg)), Here(One(Next, Is(Sort::Colon), Role::Sign)), In(Part::Induction, Choice(Phrase::CaseList)), In(Part::Induction, One(First, Is(Sort::End), Role::EndWord)), In(Part::Induction, One(Next, Is(Sort::Induction), Role::EndInduction))],
         Rest::OnArg => &[Here(One(Next, Is(Sort::On), Role::Sign)), Here(Choice(Phrase::Arg))],
         Rest::OnName => &[Here(One(Next, Is(Sort::On), Role::Sign)), Here(One(Next, Is(Sort::Name), Role::Name))],
-        Rest::OnTwoNames => &[Here(One(Next, Is(Sort::On), Role::Sign)), Here(One(Next, Is(Sort::Name), Role::Name)), Here(One(Next, Is(Sort::Comma), Role::Sign)), Here(One(Next, Is(Sort::Name), Role::Name))],
+        Rest::OnTwoNames => &[Here(One(Next, Is(Sort::On), Role::Sign)), Here(One(Next, Is(Sort::Name), Role::Name)), Here(One(Next, Is(Sort::Comma), Role::Sign)), Here(One(Next, Is(Sort::Name), Role::SecondName))],
         Rest::Arg => &[Here(Choice(Phrase::Arg)), Here(Choice(Phrase::MoreArgs))],
         Rest::OneArg => &[Here(Choice(Phrase::Arg))],
         Rest::Enclosed => &[Here(Choice(Phrase::Enclosed)), Here(One(Next, Is(Sort::Close), Role::Sign))],

@@ -2,10 +2,12 @@
 #![tactic(auto)]
 
 mod fault;
+mod fields;
 mod grammar;
 mod laws;
 mod limits;
 mod machine;
+mod parts;
 mod reader;
 mod sort;
 mod symbols;

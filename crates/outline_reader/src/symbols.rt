@@ -63,6 +63,8 @@ pub enum Role {
     /// The word `theorem` or `lemma` after `and`.
     KindWord,
     Name,
+    /// The second name of a substitution.
+    SecondName,
     Assumed,
     /// A terminal of a list, or a token of a production.
     Item,
