@@ -4,7 +4,7 @@ pub mod Derives
 pub mod Machine
 pub mod Limits
 pub mod Reading
-pub mod Laws
 pub mod Outline
 pub mod Fields
 pub mod Views
+pub mod Portions

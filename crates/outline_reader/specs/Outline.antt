@@ -11,6 +11,8 @@ use Rattle.outline_reader.specs.declared.symbols.Role.{Role}
 use Rattle.outline_reader.specs.Derives.{Mark, seen, Reaches, Derives, whole}
 use Rattle.outline_reader.specs.Limits.{nothing_counted, counted}
 use Rattle.outline_reader.specs.Machine.{missing}
+use Rattle.outline_reader.specs.Views.{Piece}
+use Rattle.outline_reader.specs.Portions.{portions}
 
 -- ---- tokens and their marks
 
@@ -84,3 +86,18 @@ IsAnswer tokens (Err (Unexpected place)) = IsUnexpected tokens place
 IsAnswer tokens (Err (MissingEnd line part)) = IsMissingEnd tokens line part
 IsAnswer tokens (Err (TooMany line limit)) = IsTooMany tokens line limit
 IsAnswer tokens (Err NoMemory) = ⊥
+
+-- ---- outlines
+
+-- the portions are the outline of the tokens
+abbrev pub IsOutline : List Token → List Piece → Type 0
+IsOutline tokens pieces = (roles : List Role) × IsOutlined tokens roles × (pieces ≡ portions roles tokens)
+
+-- the fault is that of the tokens: they have it, and no outline
+abbrev pub IsFault : List Token → OutlineFault → Type 0
+IsFault tokens fault = IsAnswer tokens (Err fault)
+
+-- what a reader answers of the tokens, unless there is no memory: their one outline, or their one fault
+abbrev pub Answers : {X : Type 0} → (X → List Piece) → Result X OutlineFault → List Token → Type 0
+Answers view (Ok found) tokens = IsOutline tokens (view found) × ((pieces : List Piece) → IsOutline tokens pieces → pieces ≡ view found) × ((fault : OutlineFault) → IsFault tokens fault → ⊥)
+Answers view (Err fault) tokens = fault ≢ NoMemory → IsFault tokens fault × ((other : OutlineFault) → IsFault tokens other → other ≡ fault) × ((pieces : List Piece) → IsOutline tokens pieces → ⊥)

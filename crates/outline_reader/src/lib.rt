@@ -4,14 +4,13 @@
 mod fault;
 mod fields;
 mod grammar;
-mod laws;
 mod limits;
 mod machine;
 mod parts;
+mod portions;
 mod reader;
 mod sort;
 mod symbols;
 pub use fault::{Limit, OutlineFault, Part};
-pub use laws::{take_is_derived, trial};
-pub use reader::roles_of;
-pub use symbols::Role;
+pub use parts::{ArgText, Form, InputText, Just, Name, NamedForm, Outline, Portion};
+pub use reader::outline;

@@ -11,14 +11,14 @@ use crate::symbols::{Alternative, Class, Item, Phrase, Place, Rest, Role, Symbol
 use std::alloc::Global;
 
 /// What the grammar sees of a token: its sort, and whether it begins its line.
-#[derive(Clone, Copy, Debug, PartialEq, Eq)]
+#[derive(Clone, Copy)]
 pub struct Seen {
     pub sort: Sort,
     pub begins: bool,
 }
 
 /// A symbol that is still to come, and the part in which it stands.
-#[derive(Clone, Copy, Debug, PartialEq, Eq)]
+#[derive(Clone, Copy)]
 pub struct Awaited {
     pub within: Part,
     pub symbol: Symbol,

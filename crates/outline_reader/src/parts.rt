@@ -13,20 +13,20 @@ pub struct Outline<'a> {
     pub parts: Vec<Portion<'a>>,
 }
 
-#[derive(Clone, Copy, Debug)]
+#[derive(Clone, Copy)]
 pub struct NamedForm<'a> {
     pub name: Name<'a>,
     pub form: Form<'a>,
 }
 
 /// An argument: a name, or a form without the parentheses around it.
-#[derive(Clone, Copy, Debug)]
+#[derive(Clone, Copy)]
 pub enum ArgText<'a> {
     Name(Name<'a>),
     Form(Form<'a>),
 }
 
-#[derive(Clone, Copy, Debug)]
+#[derive(Clone, Copy)]
 pub enum InputText<'a> {
     Given(NamedForm<'a>),
     Syntax(Name<'a>),

@@ -1,12 +1,16 @@
 // The outline of a list of tokens.
-ghost use Rattle.std.specs.Prelude.{◌≡◌, ◌≢◌, ◌<◌, ◌^◌, IfErr};
+ghost use Rattle.std.specs.Prelude.{◌≡◌, ◌≢◌, map};
 ghost use Rattle.outline_reader.specs.Derives.{begins_line};
 ghost use Rattle.outline_reader.specs.Reading as spec;
+ghost use Rattle.outline_reader.specs.Outline.{Answers};
 ghost use Rattle.outline_reader.specs.Reading.{Gives};
+ghost use Rattle.outline_reader.specs.Views.{portion_view};
 
 use crate::fault::{OutlineFault, Part};
 use crate::limits::Counts;
 use crate::machine::{Seen, missing, take, whole};
+use crate::parts::Outline;
+use crate::portions::portions;
 use crate::sort::sort_of;
 use crate::symbols::Role;
 use proof_lexer::Token;
@@ -33,7 +37,7 @@ fn first_fault(counts: Counts, line: u32, fault: OutlineFault) -> OutlineFault
 }
 
 /// What each token is in the outline.
-pub fn roles_of(alloc: Global, tokens: &[Token<'_>]) -> Result<Vec<Role>, OutlineFault>
+fn roles_of(alloc: Global, tokens: &[Token<'_>]) -> Result<Vec<Role>, OutlineFault>
     ensures { Gives (λ roles. roles.items) result (spec.roles tokens.now) }
 {
     let mut stack = whole(alloc)?;
@@ -78,4 +82,18 @@ fn at_end(
             None => Ok(roles),
         },
     }
+}
+
+/// The outline of the tokens, in text order. Each portion lends its tokens.
+///
+/// - `Unexpected`: no outline goes on at this token, counted from 0, and none does at an earlier one.
+/// - `MissingEnd`: the text ended within this innermost part; the line is that of the last token.
+/// - `TooMany`: the line at which the first limit was passed, where no other fault stands on that line or before.
+/// - `NoMemory`: there was no memory for the answer, or a place or a line was past the numbers of its type.
+pub fn outline<'a>(alloc: Global, tokens: &'a Vec<Token<'a>>) -> Result<Outline<'a>, OutlineFault>
+    ensures { Answers (λ outline. map portion_view outline.parts.items) result tokens.now.items }
+{
+    let roles = roles_of(alloc, tokens)?;
+    let parts = portions(alloc, &roles, tokens)?;
+    Ok(Outline { parts })
 }

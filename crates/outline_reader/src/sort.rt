@@ -5,7 +5,7 @@ ghost use Rattle.outline_reader.specs.Sorts as spec;
 use proof_lexer::{Kind, Token};
 
 /// What a token is for the outline.
-#[derive(Clone, Copy, Debug, PartialEq, Eq)]
+#[derive(Clone, Copy, PartialEq, Eq)]
 pub enum Sort {
     Terminals,
     Syntax,

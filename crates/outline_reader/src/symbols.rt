@@ -3,7 +3,7 @@ use crate::fault::Part;
 use crate::sort::Sort;
 
 /// Where in its line a token stands.
-#[derive(Clone, Copy, Debug, PartialEq, Eq)]
+#[derive(Clone, Copy)]
 pub enum Place {
     /// It begins its line.
     First,
@@ -13,7 +13,7 @@ pub enum Place {
 }
 
 /// Which tokens may stand somewhere.
-#[derive(Clone, Copy, Debug, PartialEq, Eq)]
+#[derive(Clone, Copy)]
 pub enum Class {
     /// A token of this sort.
     Is(Sort),
@@ -36,7 +36,7 @@ pub enum Class {
 }
 
 /// What a token is in the outline.
-#[derive(Clone, Copy, Debug, PartialEq, Eq)]
+#[derive(Clone, Copy, PartialEq, Eq)]
 pub enum Role {
     // The first token of a portion.
     TerminalsWord,
@@ -111,7 +111,7 @@ pub enum Role {
 }
 
 /// A choice of the grammar: what stands there begins with the first token of one of its alternatives.
-#[derive(Clone, Copy, Debug, PartialEq, Eq)]
+#[derive(Clone, Copy)]
 pub enum Phrase {
     /// Parts before the first theorem.
     Parts,
@@ -173,7 +173,7 @@ pub enum Phrase {
 }
 
 /// How often a phrase's alternatives are taken.
-#[derive(Clone, Copy, Debug, PartialEq, Eq)]
+#[derive(Clone, Copy, PartialEq, Eq)]
 pub enum Times {
     Once,
     AtMostOnce,
@@ -181,7 +181,7 @@ pub enum Times {
 }
 
 /// What comes after the first token of an alternative.
-#[derive(Clone, Copy, Debug, PartialEq, Eq)]
+#[derive(Clone, Copy)]
 pub enum Rest {
     Nothing,
     Terminals,
@@ -237,7 +237,7 @@ pub enum Rest {
 }
 
 /// A symbol of the grammar.
-#[derive(Clone, Copy, Debug, PartialEq, Eq)]
+#[derive(Clone, Copy)]
 pub enum Symbol {
     /// One token: where it stands, which it may be, and what it is in the outline.
     One(Place, Class, Role),
@@ -246,7 +246,7 @@ pub enum Symbol {
 }
 
 /// A symbol and the part in which it stands.
-#[derive(Clone, Copy, Debug, PartialEq, Eq)]
+#[derive(Clone, Copy)]
 pub enum Item {
     /// In the part that is open.
     Here(Symbol),
