@@ -4,3 +4,4 @@ pub mod TakeLemmas
 pub mod OrderLemmas
 pub mod CompletionLemmas
 pub mod AnswerLemmas
+pub mod OutlineLemmas

@@ -37,6 +37,11 @@ abbrev pub portion_length : List Role → ℕ
 portion_length [] = 0
 portion_length (first ∷ rest) = if begins first || names_category rest then 0 else portion_length rest + 1
 
+-- how many tokens the portion has that begins with the first token
+abbrev pub portion_size : List Role → ℕ
+portion_size [] = 0
+portion_size (first ∷ rest) = portion_length rest + 1
+
 -- ---- portions
 
 -- what the last word of an `end` line ends
@@ -106,7 +111,7 @@ rule_lines first roles tokens = rule (premises roles tokens) (name_or first role
 
 -- the productions begin behind the name and `::=`
 abbrev pub category_line : Token → List Role → List Token → Piece
-category_line first (name ∷ define ∷ roles) tokens = category first (productions roles (drop 2 tokens))
+category_line first (one ∷ define ∷ roles) tokens = category first (productions roles (drop 2 tokens))
 category_line first _ tokens = category first (productions [] [])
 
 -- the portion that begins with the first token, which has this role
@@ -131,5 +136,5 @@ portions [] tokens = []
 portions (first ∷ roles) [] = []
 portions (first ∷ roles) (token ∷ tokens) =
     if begins first || names_category roles
-    then portion first token (take (portion_length roles + 1) (first ∷ roles)) (take (portion_length roles + 1) (token ∷ tokens)) ∷ portions roles tokens
+    then portion first token (take (portion_size (first ∷ roles)) (first ∷ roles)) (take (portion_size (first ∷ roles)) (token ∷ tokens)) ∷ portions roles tokens
     else portions roles tokens

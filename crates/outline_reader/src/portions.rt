@@ -61,6 +61,17 @@ fn portion_length(mut roles: &[Role]) -> usize
     count
 }
 
+/// How many tokens the portion has that begins with the first token.
+fn portion_size(roles: &[Role]) -> usize
+    ensures value { result ≡ spec.portion_size roles.now }
+    ensures within { result ≤ length roles.now }
+{
+    match roles {
+        [] => 0,
+        [_, rest @ ..] => portion_length(rest) + 1,
+    }
+}
+
 /// What the last word of an `end` line ends.
 fn ended(mut roles: &[Role]) -> Part
     ensures { result ≡ spec.ended roles.entry.now }
@@ -308,8 +319,8 @@ pub fn portions<'a>(
             return Ok(portions);
         };
         if begins(*first) || names_category(roles_left) {
-            let length = portion_length(roles_left) + 1;
-            portions.push(portion(alloc, *first, token, &roles[..length], front(tokens, length))?)?;
+            let size = portion_size(roles);
+            portions.push(portion(alloc, *first, token, &roles[..size], front(tokens, size))?)?;
         }
         roles = roles_left;
         tokens = tokens_left;
