@@ -1,0 +1,9 @@
+use Rattle.std.proofs.Common.{◌≡◌, ◌++◌, map, length}
+use Rattle.outline_reader.specs.Fields.{forms}
+use Rattle.outline_reader.proofs.fields.forms.Given as goal
+
+abbrev pub invariant-loop-roles : goal.invariant-loop-roles
+invariant-loop-roles l = map (λ form. form.now) l.forms.items ++ forms l.role l.roles l.tokens ≡ forms l.role l.initial.roles l.initial.tokens
+
+abbrev pub decreases-loop-roles : goal.decreases-loop-roles
+decreases-loop-roles l = length l.roles

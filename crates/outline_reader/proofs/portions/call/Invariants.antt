@@ -1,0 +1,9 @@
+use Rattle.std.proofs.Common.{◌≡◌, length}
+use Rattle.outline_reader.specs.Portions.{call}
+use Rattle.outline_reader.proofs.portions.call.Given as goal
+
+abbrev pub invariant-loop-roles : goal.invariant-loop-roles
+invariant-loop-roles l = call l.roles ≡ call l.initial.roles
+
+abbrev pub decreases-loop-roles : goal.decreases-loop-roles
+decreases-loop-roles l = length l.roles

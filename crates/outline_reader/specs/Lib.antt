@@ -1,0 +1,10 @@
+pub mod Sorts
+pub mod Grammar
+pub mod Derives
+pub mod Machine
+pub mod Limits
+pub mod Reading
+pub mod Outline
+pub mod Fields
+pub mod Views
+pub mod Portions

@@ -1,0 +1,16 @@
+//! The outline of a file, lent from its tokens.
+#![tactic(auto)]
+
+mod fault;
+mod fields;
+mod grammar;
+mod limits;
+mod machine;
+mod parts;
+mod portions;
+mod reader;
+mod sort;
+mod symbols;
+pub use fault::{Limit, OutlineFault, Part};
+pub use parts::{ArgText, Form, InputText, Just, Name, NamedForm, Outline, Portion};
+pub use reader::outline;
