@@ -58,9 +58,10 @@ closed_instances sig scope inst [] [] none empty fits h = tt
 closed_instances sig scope inst [] (s ∷ ss) none empty fits h = absurd h
 closed_instances sig scope inst (p ∷ ps) [] none empty fits h = absurd h
 closed_instances sig scope inst (p ∷ ps) (s ∷ ss) none empty fits h =
-    let term : IsTerm sig ([] ++ scope_of sig inst.root) p.cat (instance_of inst 0 s) = instance_keeps_scope_of_metas sig scope inst [] p.cat s none fits h.0 in
-    (below sig [] p.cat (instance_of inst 0 s) (subst (λ sc. IsTerm sig sc p.cat (instance_of inst 0 s)) empty term),
-     closed_instances sig scope inst ps ss none empty fits h.1)
+    let term : IsTerm sig ([] ++ scope_of sig inst.root) p.cat (instance_of inst 0 s) = instance_keeps_scope_of_metas sig scope inst [] p.cat s none fits h.0 in (
+      below sig [] p.cat (instance_of inst 0 s) (subst (λ sc. IsTerm sig sc p.cat (instance_of inst 0 s)) empty term),
+      closed_instances sig scope inst ps ss none empty fits h.1,
+    )
 
 -- the instances of schemes in which others were put in
 pub instances_applied : (sig : Signature) (scope : Names) (by : Substitution) (inst : Instance) (ps : List Place) (ss : List SchemeTree) →

@@ -37,11 +37,11 @@ record IsBareForm (th : Theory) (names : Names) (j : JudgmentScheme) : Type 0 wh
 bare : (th : Theory) (names : Names) (j : JudgmentScheme) → IsPlainForm th names j → IsBareForm th names j
 bare th names j is =
     let got = match_some (slice_get th.judgments j.judgment)
-        (λ form. IsRootOf form.ctx j.context.root × IsSchemeContext th.sig names j.context
-        × AreSchemes th.sig names (entry_variables th.sig [] j.context.entries) (argument_slots form.ctx (slots form.items)) j.args) is.in_scope in
+    (λ form. IsRootOf form.ctx j.context.root × IsSchemeContext th.sig names j.context
+    × AreSchemes th.sig names (entry_variables th.sig [] j.context.entries) (argument_slots form.ctx (slots form.items)) j.args) is.in_scope in
     let none : j.context.entries ≡ [] = subst (λ r. AreExplicitEntries th.sig names r j.context.entries) is.root got.2.1 in
     let here : places th j.judgment ≡ argument_slots got.0.ctx (slots got.0.items) =
-        ap (λ o. unwrap_or (option_map (λ form. argument_slots form.ctx (slots form.items)) o) []) got.1 in
+    ap (λ o. unwrap_or (option_map (λ form. argument_slots form.ctx (slots form.items)) o) []) got.1 in
     record {
       entries = none;
       form = is_closed_form j is.root none;
@@ -98,18 +98,18 @@ module _ (ctx : SchemeContext) (by : Substitution) where
   one_form : (j t : JudgmentScheme) → j ≡ closed_form j.judgment j.args → t ≡ closed_form t.judgment t.args →
       (form_in ctx by j ≡ t) ↔ MatchOption (form_equations j t) ⊥ (AllByRecursion (Becomes by.metas by.knowns))
   one_form j t jf tf = (
-      λ e. let is : closed_form j.judgment (map (applied by.metas by.knowns 0) j.args) ≡ t = sym (form_is ctx by j jf) ∙ e in
-          let number : j.judgment ≡ t.judgment = ap (λ (f : JudgmentScheme). f.judgment) is in
-          let args : map (applied by.metas by.knowns 0) j.args ≡ t.args = ap (λ (f : JudgmentScheme). f.args) is in
-          let long : length j.args ≡ length t.args = sym (length-map j.args (applied by.metas by.knowns 0)) ∙ ap length args in
-          subst (λ o. MatchOption o ⊥ (AllByRecursion (Becomes by.metas by.knowns))) (sym (form_same j t number long))
-          (becomes_all by.metas by.knowns j.args t.args args),
-      λ h. let got = match_some (form_equations j t) (AllByRecursion (Becomes by.metas by.knowns)) h in
-          let parts = form_some j t got.0 got.1 in
-          let args = all_become by.metas by.knowns j.args t.args parts.1
-              (subst (AllByRecursion (Becomes by.metas by.knowns)) (sym parts.2) got.2) in
-          form_is ctx by j jf ∙ (λ i. closed_form (parts.0 i) (args i)) ∙ sym tf,
-    )
+    λ e. let is : closed_form j.judgment (map (applied by.metas by.knowns 0) j.args) ≡ t = sym (form_is ctx by j jf) ∙ e in
+        let number : j.judgment ≡ t.judgment = ap (λ (f : JudgmentScheme). f.judgment) is in
+        let args : map (applied by.metas by.knowns 0) j.args ≡ t.args = ap (λ (f : JudgmentScheme). f.args) is in
+        let long : length j.args ≡ length t.args = sym (length-map j.args (applied by.metas by.knowns 0)) ∙ ap length args in
+        subst (λ o. MatchOption o ⊥ (AllByRecursion (Becomes by.metas by.knowns))) (sym (form_same j t number long))
+        (becomes_all by.metas by.knowns j.args t.args args),
+    λ h. let got = match_some (form_equations j t) (AllByRecursion (Becomes by.metas by.knowns)) h in
+        let parts = form_some j t got.0 got.1 in
+        let args = all_become by.metas by.knowns j.args t.args parts.1
+        (subst (AllByRecursion (Becomes by.metas by.knowns)) (sym parts.2) got.2) in
+        form_is ctx by j jf ∙ (λ i. closed_form (parts.0 i) (args i)) ∙ sym tf,
+  )
 
   all_forms : (js ts : List JudgmentScheme) → AllByRecursion (λ j. j ≡ closed_form j.judgment j.args) js → AllByRecursion (λ t. t ≡ closed_form t.judgment t.args) ts →
       (map (form_in ctx by) js ≡ ts) ↔ MatchOption (all_equations js ts) ⊥ (AllByRecursion (Becomes by.metas by.knowns))
@@ -165,7 +165,7 @@ module _ (th : Theory) (from into : Names) where
           let parts = form_some j t eqs e in
           subst (AllByRecursion (GoTogether th.sig from into)) parts.2
           (paired_sides th.sig from into (places th j.judgment) j.args t.args jb.args
-              (subst (λ k. AreSchemes th.sig into [] (places th k) t.args) (sym parts.0) tb.args))
+          (subst (λ k. AreSchemes th.sig into [] (places th k) t.args) (sym parts.0) tb.args))
 
   all_sides : (js ts : List JudgmentScheme) → AllByRecursion (IsPlainForm th from) js → AllByRecursion (IsPlainForm th into) ts →
       EachOf (GoTogether th.sig from into) (all_equations js ts)
@@ -234,7 +234,7 @@ module _ (th : Theory) (scope : Names) (form : JudgmentScheme) (cited : List Jud
       let conclusion : form_in form.context is.by rule.conclusion ≡ form = subst (λ (h : Rule). form_in form.context is.by h.conclusion ≡ form) raised is.conclusion in
       let premises : map (form_in form.context is.by) rule.premises ≡ cited = subst (λ (h : Rule). map (form_in form.context is.by) h.premises ≡ cited) raised is.premises in
       let all = (match_both (Becomes is.by.metas is.by.knowns) (all_equations rule.premises cited) (form_equations rule.conclusion form)).1
-          ((premise_forms is.by).0 premises, (conclusion_form is.by).0 conclusion) in
+      ((premise_forms is.by).0 premises, (conclusion_form is.by).0 conclusion) in
       let got = match_some total (AllByRecursion (Becomes is.by.metas is.by.knowns)) all in
       subst (λ o. MatchOption o ⊥ (λ eqs. (by : Substitution) × IsFitInto th.sig (rule_names rule) scope eqs by)) (sym got.1)
       (is.by, record { into_is = is.into; kept = schemes; equal = got.2 })
@@ -242,7 +242,7 @@ module _ (th : Theory) (scope : Names) (form : JudgmentScheme) (cited : List Jud
   pub to_instance : (eqs : List SchemeEquation) → total ≡ Some eqs → (by : Substitution) → IsFitInto th.sig (rule_names rule) scope eqs by → IsRuleInstance th scope form cited rule
   to_instance eqs e by fit =
       let all = (match_both (Becomes by.metas by.knowns) (all_equations rule.premises cited) (form_equations rule.conclusion form)).0
-          (subst (λ o. MatchOption o ⊥ (AllByRecursion (Becomes by.metas by.knowns))) (sym e) fit.equal) in
+      (subst (λ o. MatchOption o ⊥ (AllByRecursion (Becomes by.metas by.knowns))) (sym e) fit.equal) in
       record {
         ordinary = λ h. subst (λ r. IsOneEntry r rule.conclusion.context.entries) rule_plain.conclusion.root h;
         higher = rule;
@@ -257,8 +257,8 @@ module _ (th : Theory) (scope : Names) (form : JudgmentScheme) (cited : List Jud
   pub sides_together : (eqs : List SchemeEquation) → total ≡ Some eqs → AllByRecursion (λ e. e.locals ≡ []) eqs × AllByRecursion (AreSidesInto th.sig (rule_names rule) scope) eqs
   sides_together eqs e =
       let all = each_both (GoTogether th.sig (rule_names rule) scope) (all_equations rule.premises cited) (form_equations rule.conclusion form)
-          (all_sides th (rule_names rule) scope rule.premises cited rule_plain.premises cited_plain)
-          (form_sides th (rule_names rule) scope rule.conclusion form (bare th (rule_names rule) rule.conclusion rule_plain.conclusion) (bare th scope form form_plain)) in
+      (all_sides th (rule_names rule) scope rule.premises cited rule_plain.premises cited_plain)
+      (form_sides th (rule_names rule) scope rule.conclusion form (bare th (rule_names rule) rule.conclusion rule_plain.conclusion) (bare th scope form form_plain)) in
       firsts (λ e. e.locals ≡ []) (AreSidesInto th.sig (rule_names rule) scope) eqs (subst (EachOf (GoTogether th.sig (rule_names rule) scope)) e all)
 
   strict_one : (eqs : List SchemeEquation) → total ≡ Some eqs → (m : ℕ) (decl : MetaDecl) → StrictInRule rule m → AnyByRecursion (λ e. StrictIn m e.left) eqs
@@ -292,10 +292,10 @@ module _ (th : Theory) (scope : Names) (form : JudgmentScheme) (cited : List Jud
   pub decided : (eqs : List SchemeEquation) → total ≡ Some eqs → (o : Option Substitution) → IsOnlyFitInto th.sig (rule_names rule) scope eqs o →
       IsTrue (is_some o) ↔ IsRuleInstance th scope form cited rule
   decided eqs e None none = (
-      λ h. let no : ⊥ = cc in absurd no,
-      λ is. let got = subst (λ o. MatchOption o ⊥ (λ eqs. (by : Substitution) × IsFitInto th.sig (rule_names rule) scope eqs by)) e (from_instance is) in
-          absurd (none got.0 got.1),
-    )
+    λ h. let no : ⊥ = cc in absurd no,
+    λ is. let got = subst (λ o. MatchOption o ⊥ (λ eqs. (by : Substitution) × IsFitInto th.sig (rule_names rule) scope eqs by)) e (from_instance is) in
+        absurd (none got.0 got.1),
+  )
   decided eqs e (Some by) one = (λ h. to_instance eqs e by one.0, λ is. refl)
 
 -- lists of different lengths have no equations

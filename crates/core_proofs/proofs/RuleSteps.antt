@@ -32,8 +32,8 @@ record IsClosedOver (th : Theory) (names : Names) (j : JudgmentScheme) : Type 0 
 closed_over : (th : Theory) (names : Names) (j : JudgmentScheme) → j.context.root ≡ Closed → IsJudgmentScheme th names j → IsClosedOver th names j
 closed_over th names j root is =
     let got = match_some (slice_get th.judgments j.judgment)
-        (λ form. IsRootOf form.ctx j.context.root × IsSchemeContext th.sig names j.context
-        × AreSchemes th.sig names (entry_variables th.sig [] j.context.entries) (argument_slots form.ctx (slots form.items)) j.args) is in
+    (λ form. IsRootOf form.ctx j.context.root × IsSchemeContext th.sig names j.context
+    × AreSchemes th.sig names (entry_variables th.sig [] j.context.entries) (argument_slots form.ctx (slots form.items)) j.args) is in
     let none : j.context.entries ≡ [] = subst (λ r. AreExplicitEntries th.sig names r j.context.entries) root got.2.1 in
     record {
       places = argument_slots got.0.ctx (slots got.0.items);
@@ -54,11 +54,12 @@ metas_fit sig scope inst given same none fits [] (s ∷ ss) h = absurd h
 metas_fit sig scope inst given same none fits (m ∷ ms) [] h = absurd h
 metas_fit sig scope inst given same none fits (m ∷ ms) (s ∷ ss) h =
     let term : IsTerm sig (params_scope m ++ scope_of sig inst.root) m.cat.0 (instance_of inst (length (params_scope m)) s) =
-        instance_keeps_scope_of_metas sig scope inst (params_scope m) m.cat.0 s none fits h.0 in
+    instance_keeps_scope_of_metas sig scope inst (params_scope m) m.cat.0 s none fits h.0 in
     let counted : IsTerm sig (params_scope m ++ scope_of sig inst.root) m.cat.0 (instance_of inst (params m) s) =
-        subst (λ n. IsTerm sig (params_scope m ++ scope_of sig inst.root) m.cat.0 (instance_of inst n s)) (length_params m) term in
-    (subst (λ (v : ContextValue). IsTerm sig (params_scope m ++ scope_of sig v) m.cat.0 (instance_of inst (params m) s)) (sym same) counted,
-     metas_fit sig scope inst given same none fits ms ss h.1)
+    subst (λ n. IsTerm sig (params_scope m ++ scope_of sig inst.root) m.cat.0 (instance_of inst n s)) (length_params m) term in (
+      subst (λ (v : ContextValue). IsTerm sig (params_scope m ++ scope_of sig v) m.cat.0 (instance_of inst (params m) s)) (sym same) counted,
+      metas_fit sig scope inst given same none fits ms ss h.1,
+    )
 
 no_knowns : (by : Substitution) (ks : List ℕ) → AllZip (IsKnownValue by) [] ks → ks ≡ []
 no_knowns by [] h = refl
@@ -99,8 +100,8 @@ module _ (th : Theory) (scope : Names) (inst : Instance) (rule : Rule) (by : Sub
       judgment_instance inst (form_in ctx by j) ≡ judgment_instance (followed rule.metas by inst) j
   same_instance ctx j is =
       let step : judgment_instance inst (closed_form j.judgment (map (applied by.metas by.knowns 0) j.args))
-          ≡ judgment_instance (followed rule.metas by inst) (closed_form j.judgment j.args) =
-          λ i. record { judgment = j.judgment; context = no_value; args = instances_applied th.sig (rule_names rule) by inst is.places j.args schemes is.args i } in
+      ≡ judgment_instance (followed rule.metas by inst) (closed_form j.judgment j.args) =
+      λ i. record { judgment = j.judgment; context = no_value; args = instances_applied th.sig (rule_names rule) by inst is.places j.args schemes is.args i } in
       ap (judgment_instance inst) (form_is ctx by j is.form) ∙ step ∙ ap (judgment_instance (followed rule.metas by inst)) (sym is.form)
 
   -- the premises, one by one
@@ -128,15 +129,15 @@ rule_step_derives th scope inst r rule form cited ds root none fits here rule_ro
     let premises : map (form_in form.context is.by) rule.premises ≡ cited = subst (λ (h : Rule). map (form_in form.context is.by) h.premises ≡ cited) raised is.premises in
     let head = closed_over th (rule_names rule) rule.conclusion rule_root conclusion_is in
     let form_root : form.context.root ≡ Closed =
-        sym (ap (λ (f : JudgmentScheme). f.context.root) conclusion) ∙ ap (λ (f : JudgmentScheme). f.context.root) (form_is form.context is.by rule.conclusion head.form) in
+    sym (ap (λ (f : JudgmentScheme). f.context.root) conclusion) ∙ ap (λ (f : JudgmentScheme). f.context.root) (form_is form.context is.by rule.conclusion head.form) in
     let form_over = closed_over th scope form form_root step.in_scope in
     let closed_args : AllByRecursion (IsBelow 0) (map (instance_of inst 0) form.args) =
-        closed_instances th.sig scope inst form_over.places form.args none (no_variables th scope inst rule is.by root none fits rule_root is.into schemes) fits form_over.args in
+    closed_instances th.sig scope inst form_over.places form.args none (no_variables th scope inst rule is.by root none fits rule_root is.into schemes) fits form_over.args in
     let instance_is : judgment_instance inst form ≡ judgment_instance inst (closed_form form.judgment form.args) = ap (judgment_instance inst) form_over.form in
     let args_closed : AllByRecursion (IsBelow 0) (judgment_instance inst form).args =
-        subst (λ (v : JudgmentValue). AllByRecursion (IsBelow 0) v.args) (sym instance_is) closed_args in
+    subst (λ (v : JudgmentValue). AllByRecursion (IsBelow 0) v.args) (sym instance_is) closed_args in
     let below_premises = premises_are th scope inst rule is.by root none fits rule_root is.into schemes form.context rule.premises ds premise_roots premises_are_forms
-        (subst (λ (js : List JudgmentScheme). AllZip (λ j d. Derives th d × IsInstance inst j (judgment d)) js ds) (sym premises) cited_derive) in
+    (subst (λ (js : List JudgmentScheme). AllZip (λ j d. Derives th d × IsInstance inst j (judgment d)) js ds) (sym premises) cited_derive) in
     let made : IsNodeOf th (judgment_instance inst form) (subtrees ds) rule = record {
       ordinary = is.ordinary;
       inst = followed rule.metas is.by inst;
@@ -149,6 +150,7 @@ rule_step_derives th scope inst r rule form cited ds root none fits here rule_ro
         closed = subst (λ x. AreClosed x (judgment_instance inst form).args) (sym rule_root) args_closed;
       };
       premises = below_premises.0;
-    } in
-    ((match_from (slice_get th.rules r) (IsNodeOf th (judgment_instance inst form) (subtrees ds)) rule here made, below_premises.1),
-     record { same = refl; closed = subst (λ x. AreClosed x (judgment_instance inst form).args) (sym form_root) args_closed })
+    } in (
+      (match_from (slice_get th.rules r) (IsNodeOf th (judgment_instance inst form) (subtrees ds)) rule here made, below_premises.1),
+      record { same = refl; closed = subst (λ x. AreClosed x (judgment_instance inst form).args) (sym form_root) args_closed },
+    )

@@ -28,7 +28,7 @@ RuleStepDerives =
 abbrev pub SpeaksOfNoContext : Theory → Type 0
 SpeaksOfNoContext th =
     AllByRecursion (λ rule. (rule.conclusion.context.root ≡ Closed) × AllByRecursion (λ p. p.context.root ≡ Closed) rule.premises
-        × IsJudgmentScheme th (rule_names rule) rule.conclusion × AllByRecursion (IsJudgmentScheme th (rule_names rule)) rule.premises) th.rules
+    × IsJudgmentScheme th (rule_names rule) rule.conclusion × AllByRecursion (IsJudgmentScheme th (rule_names rule)) rule.premises) th.rules
 
 -- derivations of the instances of forms, one for each
 abbrev pub AreDerived : Theory → Instance → List JudgmentScheme → List Derivation → Type 0

@@ -126,7 +126,7 @@ fn step_equations(
 ) -> Result<Option<Vec<Equation>>, NoMemory>
     ensures { IfOk result (λ all. option_map (λ es. map equation es.items) all
         ≡ both (all_equations (map judgment_scheme rule.now.premises) (map (λ t. judgment_scheme t.now) cited.now))
-            (form_equations (judgment_scheme rule.now.conclusion) (judgment_scheme form.now))) }
+        (form_equations (judgment_scheme rule.now.conclusion) (judgment_scheme form.now))) }
 {
     let Some(mut equations) = equations_of(alloc, rule.premises.as_slice(), cited)? else {
         return Ok(None);

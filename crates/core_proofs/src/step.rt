@@ -12,7 +12,9 @@ pub enum CoreStep {
     /// The proof of a theorem begins.
     Begin(TheoremId),
     /// The proof ends.
-    End { line: u32 },
+    End {
+        line: u32,
+    },
     /// The form comes by a rule from the cited steps.
     Rule {
         line: u32,

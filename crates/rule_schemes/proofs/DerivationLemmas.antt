@@ -139,23 +139,22 @@ leaf_over th r inst place system fits scope entry =
     let value : IsValue th.sig (Whole c) inst.root = subst (λ (root : Root). IsValue th.sig root inst.root) its.2 scope.root in
     match_map (slice_get th.judgments r.conclusion.judgment) _ _
     (λ form h.
-      let is : IsRootOf form.ctx (Whole c) = subst (IsRootOf form.ctx) its.2 h.1.0 in
-      let of_context : IsContext th.sig c.0 = whole_context th.sig (λ d. count_by (λ slot. slot.cat == d.0) (slots form.items) ≡ 1) form.ctx c is h.0.assumed in
-      let adds = value_adds_one th.sig (Whole c) inst.root system.sig of_context value in
-      let placed = match_some (slice_get inst.root.entries place) _ (found_with _ (IsEntryOf inst place its.1) inst.root.entries place adds its.4) in
-      let one = one_of (variables th.sig placed.0.prod) placed.2.0 in
-      let at : slice_get (scope_of th.sig inst.root) (length inst.root.entries - suc place) ≡ Some one.0 =
-          entry_variable th.sig inst.root.entries adds [] place one.0 placed.0 placed.1 one.1 in
-      let index : length inst.root.entries - suc place + 0 ≡ length inst.root.entries - suc place = omega arith in
-      let is_variable : IsTerm th.sig (scope_of th.sig inst.root) one.0 (root_variable inst 0 place) = ap (slice_get (scope_of th.sig inst.root)) index ∙ at in
-      let declared : variables th.sig its.1.prod ≡ one.0 ∷ [] = ap (variables th.sig) (sym placed.2.1.0) ∙ one.1 in
-      let locals : entry_variables th.sig [] r.conclusion.context.entries ≡ one.0 ∷ [] =
-          ap (entry_variables th.sig []) its.3 ∙ ap (λ vs. vs ++ []) declared in
-      (
-        whole_value th.sig inst.root form.ctx c is value,
-        put_arguments th.sig (rule_names r) inst one.0 (root_variable inst 0 place) refl scope is_variable (argument_slots form.ctx (slots form.items)) r.conclusion.args
-        (subst (λ ls. AreSchemes th.sig (rule_names r) ls (argument_slots form.ctx (slots form.items)) r.conclusion.args) locals h.1.2),
-      ))
+    let is : IsRootOf form.ctx (Whole c) = subst (IsRootOf form.ctx) its.2 h.1.0 in
+    let of_context : IsContext th.sig c.0 = whole_context th.sig (λ d. count_by (λ slot. slot.cat == d.0) (slots form.items) ≡ 1) form.ctx c is h.0.assumed in
+    let adds = value_adds_one th.sig (Whole c) inst.root system.sig of_context value in
+    let placed = match_some (slice_get inst.root.entries place) _ (found_with _ (IsEntryOf inst place its.1) inst.root.entries place adds its.4) in
+    let one = one_of (variables th.sig placed.0.prod) placed.2.0 in
+    let at : slice_get (scope_of th.sig inst.root) (length inst.root.entries - suc place) ≡ Some one.0 =
+    entry_variable th.sig inst.root.entries adds [] place one.0 placed.0 placed.1 one.1 in
+    let index : length inst.root.entries - suc place + 0 ≡ length inst.root.entries - suc place = omega arith in
+    let is_variable : IsTerm th.sig (scope_of th.sig inst.root) one.0 (root_variable inst 0 place) = ap (slice_get (scope_of th.sig inst.root)) index ∙ at in
+    let declared : variables th.sig its.1.prod ≡ one.0 ∷ [] = ap (variables th.sig) (sym placed.2.1.0) ∙ one.1 in
+    let locals : entry_variables th.sig [] r.conclusion.context.entries ≡ one.0 ∷ [] =
+    ap (entry_variables th.sig []) its.3 ∙ ap (λ vs. vs ++ []) declared in (
+      whole_value th.sig inst.root form.ctx c is value,
+      put_arguments th.sig (rule_names r) inst one.0 (root_variable inst 0 place) refl scope is_variable (argument_slots form.ctx (slots form.items)) r.conclusion.args
+          (subst (λ ls. AreSchemes th.sig (rule_names r) ls (argument_slots form.ctx (slots form.items)) r.conclusion.args) locals h.1.2),
+    ))
     (found_with (JudgmentFits th.sig) _ th.judgments r.conclusion.judgment system.judgments fits.forms.conclusion)
 
 leaf_judgment : (th : Theory) (r : Rule) (v : ContextValue) (place : ℕ) (j : JudgmentValue) → IsSystemSoFar th → RuleFits th r → IsAssumptionJudgment th r v place j

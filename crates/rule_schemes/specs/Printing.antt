@@ -222,12 +222,12 @@ abbrev pub choice_labels : Signature → Names → (choice : List MetaDecl) → 
 choice_labels sig names choice prod =
     record {
       metas =
-        λ m. if nat_lt m (length names.metas) then meta_name names.metas m
-        else (codes "?" ++ (if nat_lt (m - length names.metas) (length choice) then meta_name choice (m - length names.metas)
-        else decimal (m - length names.metas - length choice + 1)));
+          λ m. if nat_lt m (length names.metas) then meta_name names.metas m
+          else (codes "?" ++ (if nat_lt (m - length names.metas) (length choice) then meta_name choice (m - length names.metas)
+          else decimal (m - length names.metas - length choice + 1)));
       knowns =
-        λ k. if nat_lt k (length names.knowns) then (labels_of names).knowns k
-        else (codes "?" ++ declared_name sig (unwrap_or (slice_get (binders (items_of sig (unwrap_or prod 0))) 0) 0));
+          λ k. if nat_lt k (length names.knowns) then (labels_of names).knowns k
+          else (codes "?" ++ declared_name sig (unwrap_or (slice_get (binders (items_of sig (unwrap_or prod 0))) 0) 0));
     }
 
 -- Terms and what is made of them.
