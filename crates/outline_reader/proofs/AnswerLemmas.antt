@@ -130,7 +130,7 @@ read_run place awaited left counts before [] rest marks run =
     let a = unroll run in
     let stays : place ≡ place + 0 = omega arith in
     let base : read place awaited counts before rest ≡ with_roles [] (read (place + 0) awaited counts before rest) =
-        ap (λ n. read n awaited counts before rest) stays ∙ none_read (read (place + 0) awaited counts before rest) in
+    ap (λ n. read n awaited counts before rest) stays ∙ none_read (read (place + 0) awaited counts before rest) in
     subst (λ (ms : List Mark). read place awaited counts before rest ≡ with_roles (map role_of ms) (read (place + 0) left (counts_after counts ms []) before rest)) (sym a.0)
     (subst (λ (stack : List Awaited). read place awaited counts before rest ≡ with_roles [] (read (place + 0) stack counts before rest)) (sym a.1) base)
 read_run place awaited left counts before (token ∷ front) rest marks run =
@@ -138,12 +138,12 @@ read_run place awaited left counts before (token ∷ front) rest marks run =
     let later : Counts = counted counts a.0.0 token.line (level a.0.1) in
     let further : place + 1 + length front ≡ place + length (token ∷ front) = omega arith in
     let turned : read place awaited counts before (token ∷ (front ++ rest)) ≡ with_roles (a.0.0 ∷ []) (read (place + 1) a.0.1 later (Some token.line) (front ++ rest)) =
-        read_token place awaited counts before token (front ++ rest) a.0.0 a.0.1 a.2 in
+    read_token place awaited counts before token (front ++ rest) a.0.0 a.0.1 a.2 in
     let rest_read = read_run (place + 1) a.0.1 left later (Some token.line) front rest a.1 a.4 in
     let base : read place awaited counts before (token ∷ (front ++ rest)) ≡ with_roles (a.0.0 ∷ map role_of a.1) (read (place + length (token ∷ front)) left (counts_after later a.1 front) (last_line (Some token.line) front) rest) =
-        turned ∙ ap (with_roles (a.0.0 ∷ [])) rest_read
-        ∙ with_roles_append (a.0.0 ∷ []) (map role_of a.1) (read (place + 1 + length front) left (counts_after later a.1 front) (last_line (Some token.line) front) rest)
-        ∙ ap (λ n. with_roles (a.0.0 ∷ map role_of a.1) (read n left (counts_after later a.1 front) (last_line (Some token.line) front) rest)) further in
+    turned ∙ ap (with_roles (a.0.0 ∷ [])) rest_read
+    ∙ with_roles_append (a.0.0 ∷ []) (map role_of a.1) (read (place + 1 + length front) left (counts_after later a.1 front) (last_line (Some token.line) front) rest)
+    ∙ ap (λ n. with_roles (a.0.0 ∷ map role_of a.1) (read n left (counts_after later a.1 front) (last_line (Some token.line) front) rest)) further in
     subst (λ (ms : List Mark). read place awaited counts before (token ∷ (front ++ rest)) ≡ with_roles (map role_of ms) (read (place + length (token ∷ front)) left (counts_after counts ms (token ∷ front)) (last_line (Some token.line) front) rest)) (sym a.3) base
 
 roles_whole : (tokens : List Token) (marks : List Mark) (left : List Awaited) → Runs whole (seen tokens) marks left →
@@ -348,8 +348,8 @@ realized (one ∷ more) line =
     let sort_is : sort_of token ≡ one.sort = sample_is one.sort at in
     let begins_is : not (nat_eq token.line line) ≡ one.begins = ap (λ n. not (nat_eq n line)) (sample_line one line at) ∙ line_begins one.begins line in
     let seen_is : seen_as (Some line) token ≡ one =
-        ap (λ (sort : Sort). let x : Seen = record { sort = sort; begins = not (nat_eq token.line line) } in x) sort_is
-        ∙ ap (λ (begins : Bool). let x : Seen = record { sort = one.sort; begins = begins } in x) begins_is in
+    ap (λ (sort : Sort). let x : Seen = record { sort = sort; begins = not (nat_eq token.line line) } in x) sort_is
+    ∙ ap (λ (begins : Bool). let x : Seen = record { sort = one.sort; begins = begins } in x) begins_is in
     (token ∷ rest.0, ap (λ (x : Seen). x ∷ seen_after (Some token.line) rest.0) seen_is ∙ ap (λ (xs : List Seen). one ∷ xs) rest.1)
 
 last_some : (line : ℕ) (tokens : List Token) → (at : ℕ) × (last_line (Some line) tokens ≡ Some at)
@@ -483,9 +483,9 @@ unexpected_read tokens place h =
 
 missing_read : (tokens : List Token) (line : ℕ) (part : Part) → IsMissingEnd tokens line part → roles tokens ≡ Err (MissingEnd line part)
 missing_read tokens line part h =
-    let run = left_run tokens h.2.0 h.2.1 h.2.2 in
-    short_answer tokens h.2.0 run.middle line part run.runs (run.same ∙ h.2.3) h.1
-    ∙ ap (λ (fault : OutlineFault). let answer : Answer = Err fault in answer) (fault_here (passed_in h.2.0 tokens) line (MissingEnd line part) h.2.4)
+    let run = left_run tokens h.3.0 h.3.1 h.3.2 in
+    short_answer tokens h.3.0 run.middle line part run.runs (run.same ∙ h.3.3) h.2
+    ∙ ap (λ (fault : OutlineFault). let answer : Answer = Err fault in answer) (fault_here (passed_in h.3.0 tokens) line (MissingEnd line part) h.3.4)
 
 too_many_whole : (front : List Token) (line : ℕ) (limit : Limit) (marks others : List Mark) (middle : List Awaited) → Runs whole (seen front) marks middle → passed_in marks front ≡ Some (line, limit) →
     IsFile front others → roles front ≡ Err (TooMany line limit)
@@ -502,7 +502,7 @@ too_many_short front line limit marks middle run passed lacks other (Some part) 
 too_many_short front line limit marks middle run passed lacks other (Some part) is (Some at) last_is =
     short_answer front marks middle at part run is last_is
     ∙ ap (λ (fault : OutlineFault). let answer : Answer = Err fault in answer)
-        (fault_elsewhere (passed_in marks front) line at limit (MissingEnd at part) passed (λ e. other (last_is ∙ ap (λ n. Some n) e)))
+    (fault_elsewhere (passed_in marks front) line at limit (MissingEnd at part) passed (λ e. other (last_is ∙ ap (λ n. Some n) e)))
 
 too_many_ends : (front rest : List Token) (line : ℕ) (limit : Limit) (marks : List Mark) (middle : List Awaited) → Runs whole (seen front) marks middle → passed_in marks front ≡ Some (line, limit) →
     EndsElsewhere front rest line → roles (front ++ rest) ≡ Err (TooMany line limit)
@@ -535,10 +535,22 @@ unexpected_is front rest token marks left run stuck None is =
 unexpected_is front rest token marks left run stuck (Some passed) is = by_line (nat_eq passed.0 token.line) refl
   where
     by_line : (b : Bool) → nat_eq passed.0 token.line ≡ b → IsAnswer (front ++ token ∷ rest) (Err (cond b (Unexpected (length front)) (TooMany passed.0 passed.1)))
-    by_line true same = (front, token, rest, refl, (run_begins front marks left run, stuck_stops front token marks left run stuck), refl,
-        (marks, left, runs_leave run, subst (λ passed. NotBefore passed token.line) (sym is) (eqb-true passed.0 token.line same)))
-    by_line false other = (front, token ∷ rest, refl, ((run_begins front marks left run, stuck_stops front token marks left run stuck), λ e. true_or_false (nat_eq passed.0 token.line) (eq-eqb passed.0 token.line (sym e)) other),
-        (marks, left, runs_leave run, is))
+    by_line true same = (
+      front,
+      token,
+      rest,
+      refl,
+      (run_begins front marks left run, stuck_stops front token marks left run stuck),
+      refl,
+      (marks, left, runs_leave run, subst (λ passed. NotBefore passed token.line) (sym is) (eqb-true passed.0 token.line same)),
+    )
+    by_line false other = (
+      front,
+      token ∷ rest,
+      refl,
+      ((run_begins front marks left run, stuck_stops front token marks left run stuck), λ e. true_or_false (nat_eq passed.0 token.line) (eq-eqb passed.0 token.line (sym e)) other),
+      (marks, left, runs_leave run, is),
+    )
 
 whole_is : (tokens : List Token) (marks : List Mark) (left : List Awaited) → Runs whole (seen tokens) marks left → missing left ≡ None →
     (passed : Option (ℕ × Limit)) → passed_in marks tokens ≡ passed → IsAnswer tokens (with_roles (all_marks marks) (within_limits passed))
@@ -549,14 +561,18 @@ whole_is tokens marks left run none (Some passed) is =
 short_is : (tokens : List Token) (marks : List Mark) (left : List Awaited) (line : ℕ) (part : Part) → Runs whole (seen tokens) marks left → missing left ≡ Some part → last_line None tokens ≡ Some line →
     (passed : Option (ℕ × Limit)) → passed_in marks tokens ≡ passed → IsAnswer tokens (Err (fault_after passed line (MissingEnd line part)))
 short_is tokens marks left line part run lacks last None is =
-    (no_end tokens marks left part run lacks, last, (marks, left, runs_leave run, lacks, subst (λ passed. NotBefore passed line) (sym is) tt))
+    (run_begins tokens marks left run, no_end tokens marks left part run lacks, last, (marks, left, runs_leave run, lacks, subst (λ passed. NotBefore passed line) (sym is) tt))
 short_is tokens marks left line part run lacks last (Some passed) is = by_line (nat_eq passed.0 line) refl
   where
     by_line : (b : Bool) → nat_eq passed.0 line ≡ b → IsAnswer tokens (Err (cond b (MissingEnd line part) (TooMany passed.0 passed.1)))
-    by_line true same = (no_end tokens marks left part run lacks, last, (marks, left, runs_leave run, lacks, subst (λ passed. NotBefore passed line) (sym is) (eqb-true passed.0 line same)))
-    by_line false other = (tokens, [], sym (append-nil tokens),
-        inr (no_end tokens marks left part run lacks, λ e. let at : line ≡ passed.0 = some_one line passed.0 (sym last ∙ e) in true_or_false (nat_eq passed.0 line) (eq-eqb passed.0 line (sym at)) other),
-        (marks, left, runs_leave run, is))
+    by_line true same = (run_begins tokens marks left run, no_end tokens marks left part run lacks, last, (marks, left, runs_leave run, lacks, subst (λ passed. NotBefore passed line) (sym is) (eqb-true passed.0 line same)))
+    by_line false other = (
+      tokens,
+      [],
+      sym (append-nil tokens),
+      inr (no_end tokens marks left part run lacks, λ e. let at : line ≡ passed.0 = some_one line passed.0 (sym last ∙ e) in true_or_false (nat_eq passed.0 line) (eq-eqb passed.0 line (sym at)) other),
+      (marks, left, runs_leave run, is),
+    )
 
 end_is : (tokens : List Token) (marks : List Mark) (left : List Awaited) → Runs whole (seen tokens) marks left → (part : Option Part) → missing left ≡ part → (last : Option ℕ) → last_line None tokens ≡ last →
     IsAnswer tokens (with_roles (all_marks marks) (at_end (counts_after nothing_counted marks tokens) last part))

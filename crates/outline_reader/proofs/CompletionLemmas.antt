@@ -81,9 +81,11 @@ left_out_completes within phrase rest e h = (h.0, h.1, left_out within phrase re
 
 alternative_completes : (within : Part) (phrase : Phrase) (rest : List Awaited) (one : Alternative) → IsOneOf one (alternatives phrase) → Completes (opened within phrase one.3 ++ rest) →
     Completes (record { within = within; symbol = Choice phrase } ∷ rest)
-alternative_completes within phrase rest one is h =
-    (sample one.0 one.1 ∷ h.0, marked one.2 (opened within phrase one.3 ++ rest) ∷ h.1,
-     alternative within phrase rest one.0 one.1 one.2 one.3 (sample one.0 one.1) h.0 h.1 is (sample_fits one.0 one.1) h.2)
+alternative_completes within phrase rest one is h = (
+  sample one.0 one.1 ∷ h.0,
+  marked one.2 (opened within phrase one.3 ++ rest) ∷ h.1,
+  alternative within phrase rest one.0 one.1 one.2 one.3 (sample one.0 one.1) h.0 h.1 is (sample_fits one.0 one.1) h.2,
+)
 
 -- the symbols all are tokens or phrases of this kind
 abbrev pub easy_symbol : (Phrase → Bool) → Symbol → Bool
@@ -184,8 +186,8 @@ easier_easy ok can within phrase rest e h = by_times (is_once (times_of phrase))
         let self : Awaited = record { within = within; symbol = Choice phrase } in
         alternative_completes within phrase rest (short phrase) (short_is phrase is)
         (subst (λ (behind : List Awaited). Completes ((map (await within) (items (short phrase).3) ++ behind) ++ rest)) (sym (no_again (times_of phrase) self is))
-          (subst (λ (stack : List Awaited). Completes stack) (sym (append_assoc (map (await within) (items (short phrase).3)) [] rest))
-            (items_complete ok can within (items (short phrase).3) rest e h)))
+        (subst (λ (stack : List Awaited). Completes stack) (sym (append_assoc (map (await within) (items (short phrase).3)) [] rest))
+        (items_complete ok can within (items (short phrase).3) rest e h)))
     by_times false is e = left_out_completes within phrase rest is h
 
 abbrev pub none_easy : Phrase → Bool

@@ -510,10 +510,11 @@ ordered_symbol (Choice phrase) xs after sub e = subset_trans xs after (follow ph
 ordered_items : (xs : List Item) (within : Part) (rest : List Awaited) (after : List Start) → check_items xs after ≡ true → Subset (firsts rest) after → Ordered rest →
     Ordered (map (await within) xs ++ rest)
 ordered_items [] within rest after e sub order = order
-ordered_items (x ∷ xs) within rest after e sub order =
-    (subst (λ (symbol : Symbol). OrderedSymbol symbol (firsts (map (await within) xs ++ rest))) (sym (await_symbol within x))
+ordered_items (x ∷ xs) within rest after e sub order = (
+  subst (λ (symbol : Symbol). OrderedSymbol symbol (firsts (map (await within) xs ++ rest))) (sym (await_symbol within x))
       (ordered_symbol (symbol_of x) (firsts (map (await within) xs ++ rest)) (item_firsts xs after) (item_firsts_more xs within rest after sub) (and_left _ _ e)),
-    ordered_items xs within rest after (and_right (check_symbol (symbol_of x) (item_firsts xs after)) _ e) sub order)
+  ordered_items xs within rest after (and_right (check_symbol (symbol_of x) (item_firsts xs after)) _ e) sub order,
+)
 
 one_passes : (test : Alternative → Bool) {one : Alternative} {others : List Alternative} → IsOneOf one others → all_of test others ≡ true → test one ≡ true
 one_passes test (first rest) e = and_left _ _ e
@@ -522,9 +523,11 @@ one_passes test (later other rest h) e = one_passes test h (and_right (test othe
 -- what an alternative opens keeps the order
 ordered_again : (often : Times) (within : Part) (phrase : Phrase) (rest : List Awaited) → often ≡ times_of phrase → Ordered (record { within = within; symbol = Choice phrase } ∷ rest) →
     Subset (firsts (again often (record { within = within; symbol = Choice phrase }) ++ rest)) (tail_of often phrase) × Ordered (again often (record { within = within; symbol = Choice phrase }) ++ rest)
-ordered_again times.Any within phrase rest e order =
-    (subst (λ (often : Times). Subset (starts (alternatives phrase) ++ cond (is_once often) [] (firsts rest)) (starts (alternatives phrase) ++ follow phrase)) e
-      (subset_append (starts (alternatives phrase)) (firsts rest) (follow phrase) order.0), order)
+ordered_again times.Any within phrase rest e order = (
+  subst (λ (often : Times). Subset (starts (alternatives phrase) ++ cond (is_once often) [] (firsts rest)) (starts (alternatives phrase) ++ follow phrase)) e
+      (subset_append (starts (alternatives phrase)) (firsts rest) (follow phrase) order.0),
+  order,
+)
 ordered_again times.Once within phrase rest e order = order
 ordered_again times.AtMostOnce within phrase rest e order = order
 
@@ -600,23 +603,23 @@ left_out_told left within phrase rest (one ∷ more) marks many order begun told
 pub told : {left awaited : List Awaited} {more : List Seen} {marks : List Mark} → Reaches left awaited more marks → Ordered awaited → Told left awaited more marks
 told here order = (refl, refl)
 told (token within place class role rest one more marks fit d) order = record {
-    role = role;
-    next = rest;
-    others = marks;
-    taken = ap (λ b. cond b (Some (role, rest)) None) fit;
-    marked = refl;
-    derives = d;
-    ordered = order.1;
-  }
+  role = role;
+  next = rest;
+  others = marks;
+  taken = ap (λ b. cond b (Some (role, rest)) None) fit;
+  marked = refl;
+  derives = d;
+  ordered = order.1;
+}
 told (alternative within phrase rest place class role what one more marks is fit d) order = record {
-    role = role;
-    next = opened within phrase what ++ rest;
-    others = marks;
-    taken = ap (λ found. take_choice found within phrase rest (take rest one)) (chosen_one one is (differ_holds phrase) fit);
-    marked = refl;
-    derives = d;
-    ordered = ordered_opened within phrase rest (place, class, role, what) is order;
-  }
+  role = role;
+  next = opened within phrase what ++ rest;
+  others = marks;
+  taken = ap (λ found. take_choice found within phrase rest (take rest one)) (chosen_one one is (differ_holds phrase) fit);
+  marked = refl;
+  derives = d;
+  ordered = ordered_opened within phrase rest (place, class, role, what) is order;
+}
 told {left = left} (left_out within phrase rest more marks many d) order = left_out_told left within phrase rest more marks many order (begins d) (told d order.1)
 
 pub whole_ordered : Ordered whole

@@ -22,14 +22,16 @@ err_one x y e = cc
 pub outlined : (tokens : List Token) (found : List Role) (pieces : List Piece) → roles tokens ≡ Ok found → pieces ≡ portions found tokens →
     IsOutline tokens pieces × ((others : List Piece) → IsOutline tokens others → others ≡ pieces) × ((fault : OutlineFault) → IsFault tokens fault → ⊥)
 outlined tokens found pieces read are = (
-    (found, subst (λ (answer : Answer). IsAnswer tokens answer) read (read_is_answer tokens), are),
-    (λ others h. h.2 ∙ ap (λ rs. portions rs tokens) (ok_one h.0 found (sym (answer_is_read tokens (Ok h.0) h.1) ∙ read)) ∙ sym are),
-    (λ fault h. ok_not_err found fault (sym read ∙ answer_is_read tokens (Err fault) h)))
+  (found, subst (λ (answer : Answer). IsAnswer tokens answer) read (read_is_answer tokens), are),
+  (λ others h. h.2 ∙ ap (λ rs. portions rs tokens) (ok_one h.0 found (sym (answer_is_read tokens (Ok h.0) h.1) ∙ read)) ∙ sym are),
+  (λ fault h. ok_not_err found fault (sym read ∙ answer_is_read tokens (Err fault) h)),
+)
 
 -- the one fault
 pub faulty : (tokens : List Token) (fault : OutlineFault) → roles tokens ≡ Err fault →
     IsFault tokens fault × ((other : OutlineFault) → IsFault tokens other → other ≡ fault) × ((pieces : List Piece) → IsOutline tokens pieces → ⊥)
 faulty tokens fault read = (
-    subst (λ (answer : Answer). IsAnswer tokens answer) read (read_is_answer tokens),
-    (λ other h. err_one other fault (sym (answer_is_read tokens (Err other) h) ∙ read)),
-    (λ pieces h. ok_not_err h.0 fault (sym (answer_is_read tokens (Ok h.0) h.1) ∙ read)))
+  subst (λ (answer : Answer). IsAnswer tokens answer) read (read_is_answer tokens),
+  (λ other h. err_one other fault (sym (answer_is_read tokens (Err other) h) ∙ read)),
+  (λ pieces h. ok_not_err h.0 fault (sym (answer_is_read tokens (Ok h.0) h.1) ∙ read)),
+)

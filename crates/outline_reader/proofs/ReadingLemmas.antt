@@ -28,8 +28,8 @@ pub read_token : (place : ℕ) (stack : List Awaited) (counts : Counts) (before 
 unfolding read
 read_token place stack counts before token tokens role new taken =
     ap (λ (found : Option (Role × List Awaited)). elim found [
-      None ↦ Err (first_fault counts token.line (Unexpected place))
-    | Some taken ↦ with_roles (taken.0 ∷ []) (read (place + 1) taken.1 (counted counts taken.0 token.line (level taken.1)) (Some token.line) tokens)
+      | None ↦ Err (first_fault counts token.line (Unexpected place))
+      | Some taken ↦ with_roles (taken.0 ∷ []) (read (place + 1) taken.1 (counted counts taken.0 token.line (level taken.1)) (Some token.line) tokens)
     ]) taken
 
 pub read_stuck : (place : ℕ) (stack : List Awaited) (counts : Counts) (before : Option ℕ) (token : Token) (tokens : List Token) →
@@ -38,8 +38,8 @@ pub read_stuck : (place : ℕ) (stack : List Awaited) (counts : Counts) (before 
 unfolding read
 read_stuck place stack counts before token tokens stuck =
     ap (λ (found : Option (Role × List Awaited)). elim found [
-      None ↦ Err (first_fault counts token.line (Unexpected place))
-    | Some taken ↦ with_roles (taken.0 ∷ []) (read (place + 1) taken.1 (counted counts taken.0 token.line (level taken.1)) (Some token.line) tokens)
+      | None ↦ Err (first_fault counts token.line (Unexpected place))
+      | Some taken ↦ with_roles (taken.0 ∷ []) (read (place + 1) taken.1 (counted counts taken.0 token.line (level taken.1)) (Some token.line) tokens)
     ]) stuck
 
 pub read_end : (place : ℕ) (stack : List Awaited) (counts : Counts) (before : Option ℕ) → read place stack counts before [] ≡ at_end counts before (missing stack)

@@ -66,7 +66,7 @@ IsUnexpected tokens place = (front : List Token) × (token : Token) × (rest : L
 
 -- the text begins a file and is none; its last line, and the part of the first symbol that must still come, where no limit was passed on a line before
 abbrev pub IsMissingEnd : List Token → ℕ → Part → Type 0
-IsMissingEnd tokens line part = ((marks : List Mark) → IsFile tokens marks → ⊥) × (last_line None tokens ≡ Some line)
+IsMissingEnd tokens line part = Begins tokens × ((marks : List Mark) → IsFile tokens marks → ⊥) × (last_line None tokens ≡ Some line)
     × ((marks : List Mark) × (left : List Awaited) × LeavesOff tokens marks left × (missing left ≡ Some part) × NotBefore (passed_in marks tokens) line)
 
 -- reading ends behind these tokens, and not by a fault of this line

@@ -43,8 +43,8 @@ unfoldable pub read : ℕ → List Awaited → Counts → Option ℕ → List To
 read place awaited counts before [] = at_end counts before (missing awaited)
 read place awaited counts before (token ∷ tokens) =
     elim (take awaited (record { sort = sort_of token; begins = begins_line before token.line })) [
-      None ↦ Err (first_fault counts token.line (Unexpected place))
-    | Some taken ↦ with_roles (taken.0 ∷ []) (read (place + 1) taken.1 (counted counts taken.0 token.line (level taken.1)) (Some token.line) tokens)
+      | None ↦ Err (first_fault counts token.line (Unexpected place))
+      | Some taken ↦ with_roles (taken.0 ∷ []) (read (place + 1) taken.1 (counted counts taken.0 token.line (level taken.1)) (Some token.line) tokens)
     ]
 
 -- what each token of a text is in its outline

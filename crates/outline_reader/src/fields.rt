@@ -13,14 +13,22 @@ use std::alloc::Global;
 pub fn front<'a>(tokens: &'a [Token<'a>], count: usize) -> &'a [Token<'a>]
     ensures { result.now ≡ take count tokens.now }
 {
-    if count < tokens.len() { &tokens[..count] } else { tokens }
+    if count < tokens.len() {
+        &tokens[..count]
+    } else {
+        tokens
+    }
 }
 
 /// The tokens behind so many.
 pub fn behind<'a>(tokens: &'a [Token<'a>], count: usize) -> &'a [Token<'a>]
     ensures { result.now ≡ drop count tokens.now }
 {
-    if count < tokens.len() { &tokens[count..] } else { &[] }
+    if count < tokens.len() {
+        &tokens[count..]
+    } else {
+        &[]
+    }
 }
 
 /// How many further tokens of a form come first.
@@ -64,7 +72,12 @@ pub fn named<'a>(role: Role, mut roles: &[Role], mut tokens: &'a [Token<'a>]) ->
 }
 
 /// The first token with the role, or else the other token.
-pub fn name_or<'a>(otherwise: Name<'a>, role: Role, mut roles: &[Role], mut tokens: &'a [Token<'a>]) -> Name<'a>
+pub fn name_or<'a>(
+    otherwise: Name<'a>,
+    role: Role,
+    mut roles: &[Role],
+    mut tokens: &'a [Token<'a>],
+) -> Name<'a>
     ensures { result.now ≡ spec.name_or otherwise.now role roles.entry.now tokens.entry.now }
 {
     while let [first, roles_left @ ..] = roles {
@@ -120,7 +133,10 @@ fn named_form<'a>(name: Name<'a>, roles: &[Role], tokens: &'a [Token<'a>]) -> Na
 {
     match roles {
         [] => NamedForm { name, form: &[] },
-        [_, rest @ ..] => NamedForm { name, form: form_here(rest, behind(tokens, 1)) },
+        [_, rest @ ..] => NamedForm {
+            name,
+            form: form_here(rest, behind(tokens, 1)),
+        },
     }
 }
 
@@ -175,7 +191,11 @@ fn arg<'a>(token: Name<'a>, roles: &[Role], tokens: &'a [Token<'a>]) -> ArgText<
 }
 
 /// The first argument, or else the other token.
-pub fn subject<'a>(otherwise: Name<'a>, mut roles: &[Role], mut tokens: &'a [Token<'a>]) -> ArgText<'a>
+pub fn subject<'a>(
+    otherwise: Name<'a>,
+    mut roles: &[Role],
+    mut tokens: &'a [Token<'a>],
+) -> ArgText<'a>
     ensures { arg_view result ≡ spec.subject otherwise.now roles.entry.now tokens.entry.now }
 {
     while let [first, roles_left @ ..] = roles {
@@ -192,12 +212,19 @@ pub fn subject<'a>(otherwise: Name<'a>, mut roles: &[Role], mut tokens: &'a [Tok
 }
 
 /// The conclusion in the head of a case, or else the other token with no form.
-pub fn head_conclusion<'a>(otherwise: Name<'a>, mut roles: &[Role], mut tokens: &'a [Token<'a>]) -> NamedForm<'a>
+pub fn head_conclusion<'a>(
+    otherwise: Name<'a>,
+    mut roles: &[Role],
+    mut tokens: &'a [Token<'a>],
+) -> NamedForm<'a>
     ensures { named_view result ≡ spec.head_conclusion otherwise.now roles.entry.now tokens.entry.now }
 {
     while let [first, roles_left @ ..] = roles {
         let [token, tokens_left @ ..] = tokens else {
-            return NamedForm { name: otherwise, form: &[] };
+            return NamedForm {
+                name: otherwise,
+                form: &[],
+            };
         };
         if *first == Role::HeadConclusion {
             return named_form(token, roles_left, tokens_left);
@@ -205,7 +232,10 @@ pub fn head_conclusion<'a>(otherwise: Name<'a>, mut roles: &[Role], mut tokens: 
         roles = roles_left;
         tokens = tokens_left;
     }
-    NamedForm { name: otherwise, form: &[] }
+    NamedForm {
+        name: otherwise,
+        form: &[],
+    }
 }
 
 /// The tokens with the role.

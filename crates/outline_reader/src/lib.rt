@@ -11,6 +11,11 @@ mod portions;
 mod reader;
 mod sort;
 mod symbols;
+#[cfg(test)]
+mod tests;
+#[cfg(test)]
+mod worked;
+
 pub use fault::{Limit, OutlineFault, Part};
 pub use parts::{ArgText, Form, InputText, Just, Name, NamedForm, Outline, Portion};
 pub use reader::outline;

@@ -8,12 +8,17 @@ use crate::machine::{Awaited, level};
 use crate::symbols::Role;
 
 pub const CATEGORIES: usize = 64;
+
 pub const PRODUCTIONS: usize = 64;
+
 pub const RULES: usize = 1024;
+
 pub const THEOREMS: usize = 1024;
 /// Premises of a rule, and inputs of a theorem.
 pub const PREMISES: usize = 16;
+
 pub const TARGETS: usize = 4;
+
 pub const LEVELS: usize = 64;
 
 /// What was counted so far: in the file, in its last category, in its last rule, in its last theorem.
@@ -81,37 +86,82 @@ impl Counts {
         }
         match role {
             Role::CategoryName | Role::NewCategory => {
-                let (categories, passed) =
-                    one_more(self.categories, CATEGORIES, line, Limit::Categories);
-                Counts { categories, productions: 1, passed, ..self }
+                let (categories, passed) = one_more(
+                    self.categories,
+                    CATEGORIES,
+                    line,
+                    Limit::Categories,
+                );
+                Counts {
+                    categories,
+                    productions: 1,
+                    passed,
+                    ..self
+                }
             }
             Role::Or => {
-                let (productions, passed) =
-                    one_more(self.productions, PRODUCTIONS, line, Limit::Productions);
-                Counts { productions, passed, ..self }
+                let (productions, passed) = one_more(
+                    self.productions,
+                    PRODUCTIONS,
+                    line,
+                    Limit::Productions,
+                );
+                Counts {
+                    productions,
+                    passed,
+                    ..self
+                }
             }
-            Role::RulePremise => Counts { premises: 1, ..self },
+            Role::RulePremise => Counts {
+                premises: 1,
+                ..self
+            },
             Role::Premise => {
                 let (premises, passed) = one_more(self.premises, PREMISES, line, Limit::Premises);
-                Counts { premises, passed, ..self }
+                Counts {
+                    premises,
+                    passed,
+                    ..self
+                }
             }
             Role::RuleBar | Role::Bar => {
                 let (rules, passed) = one_more(self.rules, RULES, line, Limit::Rules);
-                Counts { rules, passed, ..self }
+                Counts {
+                    rules,
+                    passed,
+                    ..self
+                }
             }
             Role::AndWord | Role::TheoremWord => {
                 let (theorems, passed) = one_more(self.theorems, THEOREMS, line, Limit::Theorems);
-                Counts { theorems, inputs: 0, targets: 0, passed, ..self }
+                Counts {
+                    theorems,
+                    inputs: 0,
+                    targets: 0,
+                    passed,
+                    ..self
+                }
             }
             Role::ForallWord => {
                 let (inputs, passed) = one_more(self.inputs, PREMISES, line, Limit::Premises);
-                Counts { inputs, passed, ..self }
+                Counts {
+                    inputs,
+                    passed,
+                    ..self
+                }
             }
             Role::Target => {
                 let (targets, passed) = one_more(self.targets, TARGETS, line, Limit::Targets);
-                Counts { targets, passed, ..self }
+                Counts {
+                    targets,
+                    passed,
+                    ..self
+                }
             }
-            Role::StepName | Role::ProofWord => Counts { step_line: line, ..self },
+            Role::StepName | Role::ProofWord => Counts {
+                step_line: line,
+                ..self
+            },
             Role::Cases | Role::Induction => {
                 let passed = too_deep(stack, self.step_line);
                 Counts { passed, ..self }

@@ -94,17 +94,16 @@ fn written(within: Part, item: Item) -> Awaited
 {
     match item {
         Item::Here(symbol) => Awaited { within, symbol },
-        Item::In(part, symbol) => Awaited { within: part, symbol },
+        Item::In(part, symbol) => Awaited {
+            within: part,
+            symbol,
+        },
     }
 }
 
 /// Puts symbols on the stack, the first on top.
 #[tactic(auto, using(crate::proofs::StackLemmas::reverse_push))]
-fn open(
-    stack: &mut Vec<Awaited>,
-    within: Part,
-    items: &[Item],
-) -> Result<(), OutlineFault>
+fn open(stack: &mut Vec<Awaited>, within: Part, items: &[Item]) -> Result<(), OutlineFault>
     ensures ok { OnOk result (reverse stack.new.items ≡ map (await within) items.now ++ reverse stack.old.items) }
     ensures err { IfErr result (λ e. e ≡ OutlineFault.NoMemory) }
 {
@@ -123,7 +122,11 @@ pub fn take(stack: &mut Vec<Awaited>, seen: Seen) -> Result<Option<Role>, Outlin
     while let Some(next) = stack.pop() {
         match next.symbol {
             Symbol::One(place, class, role) => {
-                return Ok(if fits(place, class, seen) { Some(role) } else { None });
+                return Ok(if fits(place, class, seen) {
+                    Some(role)
+                } else {
+                    None
+                });
             }
             Symbol::Choice(phrase) => {
                 if let Some((role, rest)) = chosen(alternatives(phrase), seen) {
@@ -196,7 +199,13 @@ pub fn whole(alloc: Global) -> Result<Vec<Awaited>, OutlineFault>
     ensures err { IfErr result (λ e. e ≡ OutlineFault.NoMemory) }
 {
     let mut stack = Vec::new(alloc);
-    stack.push(Awaited { within: Part::Terminals, symbol: Symbol::Choice(Phrase::FirstTheorem) })?;
-    stack.push(Awaited { within: Part::Terminals, symbol: Symbol::Choice(Phrase::Parts) })?;
+    stack.push(Awaited {
+        within: Part::Terminals,
+        symbol: Symbol::Choice(Phrase::FirstTheorem),
+    })?;
+    stack.push(Awaited {
+        within: Part::Terminals,
+        symbol: Symbol::Choice(Phrase::Parts),
+    })?;
     Ok(stack)
 }

@@ -35,10 +35,19 @@ pub enum InputText<'a> {
 /// What justifies a step.
 #[derive(Drop)]
 pub enum Just<'a> {
-    Rule { name: Name<'a>, on: Vec<ArgText<'a>> },
+    Rule {
+        name: Name<'a>,
+        on: Vec<ArgText<'a>>,
+    },
     /// The kind is the word `theorem` or `lemma`.
-    Theorem { kind: Name<'a>, name: Name<'a>, on: Vec<ArgText<'a>> },
-    Hypothesis { on: Vec<ArgText<'a>> },
+    Theorem {
+        kind: Name<'a>,
+        name: Name<'a>,
+        on: Vec<ArgText<'a>>,
+    },
+    Hypothesis {
+        on: Vec<ArgText<'a>>,
+    },
     Cases(ArgText<'a>),
     Induction(ArgText<'a>),
     Contradiction(ArgText<'a>),
@@ -53,11 +62,28 @@ pub enum Just<'a> {
 /// the first token.
 #[derive(Drop)]
 pub enum Portion<'a> {
-    Terminals { first: Name<'a>, items: Form<'a> },
-    Syntax { first: Name<'a> },
-    Category { name: Name<'a>, productions: Vec<Form<'a>> },
-    Judgment { first: Name<'a>, name: Name<'a>, form: Form<'a>, assumes: Option<Name<'a>> },
-    Rule { premises: Vec<Form<'a>>, name: Name<'a>, conclusion: Form<'a> },
+    Terminals {
+        first: Name<'a>,
+        items: Form<'a>,
+    },
+    Syntax {
+        first: Name<'a>,
+    },
+    Category {
+        name: Name<'a>,
+        productions: Vec<Form<'a>>,
+    },
+    Judgment {
+        first: Name<'a>,
+        name: Name<'a>,
+        form: Form<'a>,
+        assumes: Option<Name<'a>>,
+    },
+    Rule {
+        premises: Vec<Form<'a>>,
+        name: Name<'a>,
+        conclusion: Form<'a>,
+    },
     /// `joined` where `and` stands in front; the kind is the word `theorem` or `lemma`.
     Theorem {
         first: Name<'a>,
@@ -70,7 +96,12 @@ pub enum Portion<'a> {
         targets: Vec<Name<'a>>,
     },
     /// A step written with `proof` has no names and no forms.
-    Step { first: Name<'a>, names: Vec<Name<'a>>, forms: Vec<Form<'a>>, just: Just<'a> },
+    Step {
+        first: Name<'a>,
+        names: Vec<Name<'a>>,
+        forms: Vec<Form<'a>>,
+        just: Just<'a>,
+    },
     Inversion {
         first: Name<'a>,
         subject: ArgText<'a>,
@@ -78,7 +109,19 @@ pub enum Portion<'a> {
         name: Name<'a>,
         conclusion: NamedForm<'a>,
     },
-    CaseRule { first: Name<'a>, premises: Vec<NamedForm<'a>>, name: Name<'a>, conclusion: NamedForm<'a> },
-    CaseTerm { first: Name<'a>, form: Form<'a>, assumes: Option<Form<'a>> },
-    End { first: Name<'a>, part: Part },
+    CaseRule {
+        first: Name<'a>,
+        premises: Vec<NamedForm<'a>>,
+        name: Name<'a>,
+        conclusion: NamedForm<'a>,
+    },
+    CaseTerm {
+        first: Name<'a>,
+        form: Form<'a>,
+        assumes: Option<Form<'a>>,
+    },
+    End {
+        first: Name<'a>,
+        part: Part,
+    },
 }

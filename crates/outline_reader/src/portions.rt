@@ -5,8 +5,8 @@ ghost use Rattle.outline_reader.specs.Views.{just_view, portion_view};
 
 use crate::fault::{OutlineFault, Part};
 use crate::fields::{
-    all_named, args, behind, form_if, form_of, forms, front, head_conclusion, inputs, name_or, named,
-    named_forms, outputs, premises, productions, subject,
+    all_named, args, behind, form_if, form_of, forms, front, head_conclusion, inputs, name_or,
+    named, named_forms, outputs, premises, productions, subject,
 };
 use crate::parts::{Just, Name, Portion};
 use crate::symbols::Role;
@@ -132,13 +132,18 @@ fn just<'a>(
 {
     let name = name_or(first, Role::Name, roles, tokens);
     match call(roles) {
-        Role::RuleCall => Ok(Just::Rule { name, on: args(alloc, roles, tokens)? }),
+        Role::RuleCall => Ok(Just::Rule {
+            name,
+            on: args(alloc, roles, tokens)?,
+        }),
         Role::TheoremCall => Ok(Just::Theorem {
             kind: name_or(first, Role::TheoremCall, roles, tokens),
             name,
             on: args(alloc, roles, tokens)?,
         }),
-        Role::HypothesisCall => Ok(Just::Hypothesis { on: args(alloc, roles, tokens)? }),
+        Role::HypothesisCall => Ok(Just::Hypothesis {
+            on: args(alloc, roles, tokens)?,
+        }),
         Role::Cases => Ok(Just::Cases(subject(first, roles, tokens))),
         Role::Induction => Ok(Just::Induction(subject(first, roles, tokens))),
         Role::Contradiction => Ok(Just::Contradiction(subject(first, roles, tokens))),
@@ -266,7 +271,10 @@ fn portion<'a>(
     ensures err { IfErr result (λ e. e ≡ OutlineFault.NoMemory) }
 {
     match role {
-        Role::TerminalsWord => Ok(Portion::Terminals { first, items: behind(tokens, 1) }),
+        Role::TerminalsWord => Ok(Portion::Terminals {
+            first,
+            items: behind(tokens, 1),
+        }),
         Role::SyntaxWord => Ok(Portion::Syntax { first }),
         Role::JudgmentWord => Ok(Portion::Judgment {
             first,
@@ -280,7 +288,10 @@ fn portion<'a>(
         Role::StepName | Role::ProofWord => step(alloc, first, roles, tokens),
         Role::InversionWord => inversion(alloc, first, roles, tokens),
         Role::CaseWord => case(alloc, first, roles, tokens),
-        Role::EndWord => Ok(Portion::End { first, part: ended(roles) }),
+        Role::EndWord => Ok(Portion::End {
+            first,
+            part: ended(roles),
+        }),
         _ => category(alloc, first, roles, tokens),
     }
 }
@@ -300,7 +311,10 @@ fn category<'a>(
             name: first,
             productions: productions(alloc, rest, behind(tokens, 2))?,
         }),
-        _ => Ok(Portion::Category { name: first, productions: productions(alloc, &[], &[])? }),
+        _ => Ok(Portion::Category {
+            name: first,
+            productions: productions(alloc, &[], &[])?,
+        }),
     }
 }
 

@@ -45,7 +45,10 @@ fn roles_of(alloc: Global, tokens: &[Token<'_>]) -> Result<Vec<Role>, OutlineFau
     let mut roles = Vec::new(alloc);
     let mut before = None;
     for token in tokens {
-        let seen = Seen { sort: sort_of(token), begins: begins_line(before, token.line) };
+        let seen = Seen {
+            sort: sort_of(token),
+            begins: begins_line(before, token.line),
+        };
         before = Some(token.line);
         let Some(role) = take(&mut stack, seen)? else {
             return Err(unexpected(counts, token.line, roles.len()));
@@ -76,7 +79,11 @@ fn at_end(
     ensures { Gives (λ roles. roles.items) result (spec.with_roles roles.items (spec.at_end counts before missing)) }
 {
     match (missing, before) {
-        (Some(part), Some(line)) => Err(first_fault(counts, line, OutlineFault::MissingEnd(line, part))),
+        (Some(part), Some(line)) => Err(first_fault(
+            counts,
+            line,
+            OutlineFault::MissingEnd(line, part),
+        )),
         _ => match counts.passed {
             Some((line, limit)) => Err(OutlineFault::TooMany(line, limit)),
             None => Ok(roles),

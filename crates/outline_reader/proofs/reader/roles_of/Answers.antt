@@ -22,11 +22,11 @@ loop-token-preserved c =
     turn _ c.loop-token.roles.items (reverse c.loop-token.stack.items) (reverse c.take.new.stack.items) c.loop-token.counts c.loop-token.before c.args.tokens.now c.loop-token.token-index no_token c.in-Some.role c.loop-token-test.true c.loop-token.invariant taken
     ∙ ap (λ roles. spec.with_roles roles (spec.read (length roles) (reverse c.take.new.stack.items) (limits.counted c.loop-token.counts c.in-Some.role (get_or c.args.tokens.now c.loop-token.token-index no_token).line (level (reverse c.take.new.stack.items))) (Some (get_or c.args.tokens.now c.loop-token.token-index no_token).line) (drop (c.loop-token.token-index + 1) c.args.tokens.now))) (sym pushed)
     ∙ ap (λ counts. spec.with_roles c.push.new.self.items (spec.read (length c.push.new.self.items) (reverse c.take.new.stack.items) counts (Some (get_or c.args.tokens.now c.loop-token.token-index no_token).line) (drop (c.loop-token.token-index + 1) c.args.tokens.now)))
-        (sym (c.count-counts.ensures ∙ ap (λ stack. limits.counted c.loop-token.counts c.in-Some.role (get_or c.args.tokens.now c.loop-token.token-index no_token).line (level (reverse stack))) c.deref.ensures.value))
+    (sym (c.count-counts.ensures ∙ ap (λ stack. limits.counted c.loop-token.counts c.in-Some.role (get_or c.args.tokens.now c.loop-token.token-index no_token).line (level (reverse stack))) c.deref.ensures.value))
 
 pub returns : goal.returns
 returns c =
     let all : spec.roles c.args.tokens.now ≡ spec.with_roles c.loop-token.roles.items (spec.at_end c.loop-token.counts c.loop-token.before c.missing.result) =
-        turn_end _ c.loop-token.roles.items (reverse c.loop-token.stack.items) c.loop-token.counts c.loop-token.before (drop c.loop-token.token-index c.args.tokens.now) (drop_all _ _ c.loop-token-test.false) c.loop-token.invariant
-        ∙ ap (λ part. spec.with_roles c.loop-token.roles.items (spec.at_end c.loop-token.counts c.loop-token.before part)) (sym c.missing.ensures) in
+    turn_end _ c.loop-token.roles.items (reverse c.loop-token.stack.items) c.loop-token.counts c.loop-token.before (drop c.loop-token.token-index c.args.tokens.now) (drop_all _ _ c.loop-token-test.false) c.loop-token.invariant
+    ∙ ap (λ part. spec.with_roles c.loop-token.roles.items (spec.at_end c.loop-token.counts c.loop-token.before part)) (sym c.missing.ensures) in
     subst (λ (answer : spec.Answer). spec.Gives (λ roles. roles.items) c.at_end.result answer) (sym all) c.at_end.ensures
