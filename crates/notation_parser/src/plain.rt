@@ -32,11 +32,17 @@ fn no_parameters(metas: &[MetaDecl]) -> bool
     true
 }
 
-fn is_new(name: &[u8], metas: &[MetaDecl]) -> bool
-    ensures { IsTrue result ↔ AllByRecursion (λ m. name.now ≢ m.name) metas.now }
+fn is_named_as(one: &MetaDecl, other: &MetaDecl) -> bool
+    ensures { IsTrue result ↔ (one.now.name ≡ other.now.name) }
+{
+    one.name.bytes() == other.name.bytes()
+}
+
+fn is_new(one: &MetaDecl, metas: &[MetaDecl]) -> bool
+    ensures { IsTrue result ↔ AllByRecursion (λ m. one.now.name ≢ m.name) metas.now }
 {
     for meta in metas {
-        if name == meta.name.bytes() {
+        if is_named_as(one, meta) {
             return false;
         }
     }
@@ -47,7 +53,7 @@ fn names_apart(metas: &[MetaDecl]) -> bool
     ensures { IsTrue result ↔ NamesApart metas.now }
 {
     for i in 0..metas.len() {
-        if !is_new(metas[i].name.bytes(), &metas[i + 1..]) {
+        if !is_new(&metas[i], &metas[i + 1..]) {
             return false;
         }
     }
