@@ -11,7 +11,9 @@ use Rattle.binding_terms.specs.declared.grammar.CatId.{CatId}
 use Rattle.scheme_terms.specs.SchemeTree.{Parts, no_parts, part}
 use Rattle.scheme_terms.specs.declared.scheme.MetaDecl.{MetaDecl}
 use Rattle.rule_schemes.specs.Reading.{Token, IsTerminal, Variable, slot_variables, variable_at, IsVariableWord, ReadsTerm, ReadsItems, all_read, terminal, binder, slot}
-use Rattle.notation_parser.specs.Splitting.{IsSplit, AreSplits, AreWithin, longest, ReadsPieces}
+use Rattle.notation_parser.specs.Splitting.{IsSplit, AreSplits, AreWithin, longest, lengths, ReadsPieces}
+use Rattle.rule_schemes.specs.Said.{Ways, no_ways, then_way, way_of_term, item_lengths, ways_of_items}
+use Rattle.notation_parser.specs.Ordered.{ReadsTermAt, ReadsItemsAt}
 use Rattle.notation_parser.specs.declared.splits.Piece.{Piece}
 use Rattle.notation_parser.proofs.Splitting.{piece_of}
 
@@ -62,47 +64,54 @@ module _ (sig : Signature) (metas : List MetaDecl) (none : AllByRecursion (λ (k
   no_words (slot e h t r) = no_words r
 
   -- a reading of items gives a split and readings of its slots
-  pub split_of : {vars own : List Variable} {words : List (List ℕ)} {items : List Item} {tokens : List Token} {xs : Parts} → ReadsItems sig metas vars own words items tokens xs
-      → vars ≡ [] → own ≡ [] → (ts : List Token) (n : ℕ) → n ≤ length ts → tokens ≡ drop n ts → (ps : List Piece) × IsSplit ts items n ps × ReadsPieces sig metas ts ps xs
-  split_of all_read v o ts n h e = ([], (drop_at_end ts n h e, refl), refl)
+  pub split_of : {vars own : List Variable} {words : List (List ℕ)} {items : List Item} {tokens : List Token} {xs : Parts} → (r : ReadsItems sig metas vars own words items tokens xs)
+      → vars ≡ [] → own ≡ [] → (ts : List Token) (n : ℕ) → n ≤ length ts → tokens ≡ drop n ts
+      → (ps : List Piece) × IsSplit ts items n ps × (lengths ps ≡ item_lengths r) × ReadsPieces sig metas ts ps (ways_of_items r) xs
+  split_of all_read v o ts n h e = ([], (drop_at_end ts n h e, refl), refl, (refl, refl))
   split_of (terminal {text = text} {items = items} {t = t} {tokens = tokens} this r) v o ts n h e =
       let d = drop_at_cons ts tokens t n h e in
       let s = split_of r v o ts (n + 1) d.0 d.2 in
-      (s.0, subst (λ found. MatchOption found ⊥ (λ t. IsTerminal text t × IsSplit ts items (n + 1) s.0)) (sym d.1) (this, s.1), s.2)
+      (s.0, subst (λ found. MatchOption found ⊥ (λ t. IsTerminal text t × IsSplit ts items (n + 1) s.0)) (sym d.1) (this, s.1), s.2, s.3)
   split_of (binder {w = w} {c = c} h r) v o ts n k e = absurd (no_variable_word sig c.0 w none h)
   split_of (slot {vars = vars} {own = own} {c = c} {binds = binds} {first = first} {rest = rest} {s = s} e some t r) v o ts n h f =
       let d = front_is ts first rest n h (sym f ∙ e) in
       let more = split_of r v o ts (n + length first) d.0 (sym d.2) in
       let scope : slot_variables own binds ++ vars ≡ [] = ap (λ vs. slot_variables vs binds ++ vars) o ∙ ap (λ vs. vs ++ vars) (no_slot_variables binds) ∙ v in
-      let read : ReadsTerm sig metas [] c.0 first s = subst (λ vs. ReadsTerm sig metas vs c.0 first s) scope t in
-      let lt : 0 < length first = some_token first some in (
+      let read : ReadsTermAt sig metas [] c.0 first (way_of_term t) s = subst (λ vs. ReadsTermAt sig metas vs c.0 first (way_of_term t) s) scope (t, refl) in
+      let lt : 0 < length first = some_token first some in
+      let long : n + length first - n ≡ length first = omega arith in (
         piece_of c binds n (n + length first) ∷ more.0,
         (refl, omega arith, d.0, more.1),
-        (refl, subst (λ ts. ReadsTerm sig metas [] c.0 ts s) (sym d.1) read, more.2),
+        ap (λ k. k ∷ lengths more.0) long ∙ ap (λ ls. length first ∷ ls) more.2,
+        (refl, subst (λ ts. ReadsTermAt sig metas [] c.0 ts (way_of_term t) s) (sym d.1) read, more.3),
       )
 
   -- and the other way round
-  pub read_split : (ts : List Token) (items : List Item) (n : ℕ) (ps : List Piece) (xs : Parts) → n ≤ length ts → IsSplit ts items n ps → ReadsPieces sig metas ts ps xs
-      → ReadsItems sig metas [] [] [] items (drop n ts) xs
-  read_split ts [] n ps xs h s r =
-      let e : ReadsPieces sig metas ts [] xs = subst (λ qs. ReadsPieces sig metas ts qs xs) s.1 r in
-      subst (λ ys. ReadsItems sig metas [] [] [] [] (drop n ts) ys) (sym e)
-      (subst (λ us. ReadsItems sig metas [] [] [] [] us no_parts) (sym (drop_all n ts (omega (arith, s.0)))) all_read)
-  read_split ts (Word text quoted ∷ items) n ps xs h s r = go (λ k more. read_split ts items (n + 1) ps xs k more r) (slice_get ts n) refl s
+  pub read_split : (ts : List Token) (items : List Item) (n : ℕ) (ps : List Piece) (ws : Ways) (xs : Parts) → n ≤ length ts → IsSplit ts items n ps
+      → ReadsPieces sig metas ts ps ws xs → ReadsItemsAt sig metas items (drop n ts) (lengths ps) ws xs
+  read_split ts [] n ps ws xs h s r =
+      let e : ReadsPieces sig metas ts [] ws xs = subst (λ qs. ReadsPieces sig metas ts qs ws xs) s.1 r in
+      subst (λ qs. ReadsItemsAt sig metas [] (drop n ts) (lengths qs) ws xs) (sym s.1)
+      (subst (λ vs. ReadsItemsAt sig metas [] (drop n ts) [] vs xs) (sym e.0)
+      (subst (λ ys. ReadsItemsAt sig metas [] (drop n ts) [] no_ways ys) (sym e.1)
+      (subst (λ us. ReadsItemsAt sig metas [] us [] no_ways no_parts) (sym (drop_all n ts (omega (arith, s.0)))) (all_read, refl, refl))))
+  read_split ts (Word text quoted ∷ items) n ps ws xs h s r = go (λ k more. read_split ts items (n + 1) ps ws xs k more r) (slice_get ts n) refl s
     where
-      go : (n + 1 ≤ length ts → IsSplit ts items (n + 1) ps → ReadsItems sig metas [] [] [] items (drop (n + 1) ts) xs)
+      go : (n + 1 ≤ length ts → IsSplit ts items (n + 1) ps → ReadsItemsAt sig metas items (drop (n + 1) ts) (lengths ps) ws xs)
           → (o : Option Token) → slice_get ts n ≡ o → MatchOption o ⊥ (λ t. IsTerminal text t × IsSplit ts items (n + 1) ps)
-          → ReadsItems sig metas [] [] [] (Word text quoted ∷ items) (drop n ts) xs
+          → ReadsItemsAt sig metas (Word text quoted ∷ items) (drop n ts) (lengths ps) ws xs
       go rest None e s = absurd s
       go rest (Some t) e s =
           let lt = slice_get_within ts n t e in
-          subst (λ us. ReadsItems sig metas [] [] [] (Word text quoted ∷ items) us xs)
+          let k = rest (omega arith) s.1 in
+          subst (λ us. ReadsItemsAt sig metas (Word text quoted ∷ items) us (lengths ps) ws xs)
           (sym (drop_more ts n t lt ∙ ap (λ u. u ∷ drop (n + 1) ts) (get_or_from_slice_get ts n t t e)))
-          (terminal s.0 (rest (omega arith) s.1))
-  read_split ts (Binder c ∷ items) n ps xs h s r = absurd s
-  read_split ts (Slot c binds ∷ items) n [] xs h s r = absurd s
-  read_split ts (Slot c binds ∷ items) n (p ∷ ps) no_parts h s r = absurd r
-  read_split ts (Slot c binds ∷ items) n (p ∷ ps) (part m x xs) h s r =
+          (terminal s.0 k.0, k.1, k.2)
+  read_split ts (Binder c ∷ items) n ps ws xs h s r = absurd s
+  read_split ts (Slot c binds ∷ items) n [] ws xs h s r = absurd s
+  read_split ts (Slot c binds ∷ items) n (p ∷ ps) no_ways xs h s r = absurd r
+  read_split ts (Slot c binds ∷ items) n (p ∷ ps) (then_way w ws) no_parts h s r = absurd r
+  read_split ts (Slot c binds ∷ items) n (p ∷ ps) (then_way w ws) (part m x xs) h s r =
       let k = p.to - n in
       let first = slice_range ts n p.to in
       let whole : drop n ts ≡ first ++ drop p.to ts =
@@ -111,26 +120,32 @@ module _ (sig : Signature) (metas : List MetaDecl) (none : AllByRecursion (λ (k
       let cat : p.cat ≡ c = ap (λ (q : Piece). q.cat) s.0 in
       let from : p.from ≡ n = ap (λ (q : Piece). q.from) s.0 in
       let binds_is : m ≡ length binds = r.0 ∙ ap (λ (q : Piece). q.binds) s.0 in
+      let long : length first ≡ p.to - p.from = omega (arith, length-take k (drop n ts), length-drop n ts, s.1, s.2) in
       let scope : [] ≡ slot_variables [] binds ++ [] = ap (λ vs. vs ++ []) (sym (no_slot_variables binds)) in
-      let read : ReadsTerm sig metas [] c.0 (slice_range ts n p.to) x =
-      subst (λ (d : CatId). ReadsTerm sig metas [] d.0 (slice_range ts n p.to) x) cat
-      (subst (λ f. ReadsTerm sig metas [] p.cat.0 (slice_range ts f p.to) x) from r.1) in
-      subst (λ j. ReadsItems sig metas [] [] [] (Slot c binds ∷ items) (drop n ts) (part j x xs)) (sym binds_is)
-      (slot whole some (subst (λ vs. ReadsTerm sig metas vs c.0 first x) scope read) (read_split ts items p.to ps xs s.2 s.3 r.2))
+      let read : ReadsTermAt sig metas [] c.0 first w x =
+      subst (λ (d : CatId). ReadsTermAt sig metas [] d.0 (slice_range ts n p.to) w x) cat
+      (subst (λ f. ReadsTermAt sig metas [] p.cat.0 (slice_range ts f p.to) w x) from r.1) in
+      let under = subst (λ vs. ReadsTermAt sig metas vs c.0 first w x) scope read in
+      let rest = read_split ts items p.to ps ws xs s.2 s.3 r.2 in
+      subst (λ j. ReadsItemsAt sig metas (Slot c binds ∷ items) (drop n ts) (lengths (p ∷ ps)) (then_way w ws) (part j x xs)) (sym binds_is)
+      (slot whole some under.0 rest.0, ap (λ l. l ∷ item_lengths rest.0) long ∙ ap (λ ls. (p.to - p.from) ∷ ls) rest.1, ap (λ v. then_way v (ways_of_items rest.0)) under.1 ∙ ap (then_way w) rest.2)
 
   -- a reading of all the tokens is one of a split
-  pub items_read : (ts : List Token) (items : List Item) (all : List (List Piece)) (xs : Parts) → AreSplits ts items 0 all
-      → ReadsItems sig metas [] [] [] items ts xs ↔ ((ps : List Piece) × Contains all ps × ReadsPieces sig metas ts ps xs)
-  items_read ts items all xs splits = (
-    λ r. (let s = split_of r refl refl ts 0 (omega arith) refl in (s.0, (splits s.0).0 s.1, s.2)),
-    λ s. read_split ts items 0 s.0 xs (omega arith) ((splits s.0).1 s.1) s.2,
+  pub items_read : (ts : List Token) (items : List Item) (all : List (List Piece)) (ls : List ℕ) (ws : Ways) (xs : Parts) → AreSplits ts items 0 all
+      → ReadsItemsAt sig metas items ts ls ws xs ↔ ((ps : List Piece) × Contains all ps × (ls ≡ lengths ps) × ReadsPieces sig metas ts ps ws xs)
+  items_read ts items all ls ws xs splits = (
+    λ r. (let s = split_of r.0 refl refl ts 0 (omega arith) refl in
+    (s.0, (splits.splits s.0).0 s.1, sym (s.2 ∙ r.1), subst (λ vs. ReadsPieces sig metas ts s.0 vs xs) r.2 s.3)),
+    λ s. subst (λ ks. ReadsItemsAt sig metas items ts ks ws xs) (sym s.2) (read_split ts items 0 s.0 ws xs (omega arith) ((splits.splits s.0).1 s.1) s.3),
   )
 
 -- what reads as slots one after another reads as the last of them
-pub suffix_reads : (sig : Signature) (metas : List MetaDecl) (ts : List Token) (front ps : List Piece) (xs : Parts) → ReadsPieces sig metas ts (front ++ ps) xs → (ys : Parts) × ReadsPieces sig metas ts ps ys
-suffix_reads sig metas ts [] ps xs r = (xs, r)
-suffix_reads sig metas ts (p ∷ front) ps no_parts r = absurd r
-suffix_reads sig metas ts (p ∷ front) ps (part n x xs) r = suffix_reads sig metas ts front ps xs r.2
+pub suffix_reads : (sig : Signature) (metas : List MetaDecl) (ts : List Token) (front ps : List Piece) (ws : Ways) (xs : Parts) → ReadsPieces sig metas ts (front ++ ps) ws xs
+    → (vs : Ways) × (ys : Parts) × ReadsPieces sig metas ts ps vs ys
+suffix_reads sig metas ts [] ps ws xs r = (ws, xs, r)
+suffix_reads sig metas ts (p ∷ front) ps no_ways xs r = absurd r
+suffix_reads sig metas ts (p ∷ front) ps (then_way w ws) no_parts r = absurd r
+suffix_reads sig metas ts (p ∷ front) ps (then_way w ws) (part n x xs) r = suffix_reads sig metas ts front ps ws xs r.2
 
 pub one_more_back : (ps : List Piece) (j : ℕ) (p : Piece) → j < length ps → reverse (take (j + 1) ps) ≡ get_or ps j p ∷ reverse (take j ps)
 one_more_back ps j p h = ap reverse (take_more ps j p h) ∙ reverse-append (take j ps) (get_or ps j p ∷ [])

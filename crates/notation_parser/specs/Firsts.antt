@@ -1,4 +1,4 @@
--- The first two things that have a property, or fewer where there are fewer.
+-- The first two things that have a property in an order, or fewer where there are fewer.
 use Rattle.std.specs.Prelude.{◌≡◌, ◌≢◌, ◌⊎◌, ℕ, List, [], ◌∷◌, map, reverse}
 use Rattle.scheme_terms.specs.SchemeTree.{SchemeTree, Parts, part}
 use Rattle.scheme_terms.specs.View.{parts_of, scheme_part}
@@ -12,12 +12,17 @@ listed f Nothing = []
 listed f (One a) = f a ∷ []
 listed f (Two a b) = f a ∷ f b ∷ []
 
--- none, the only one, or two different ones
-abbrev pub AreFirst : {A : Type 0} → (A → Type 0) → List A → Type 0
-AreFirst {A} P [] = (x : A) → P x → ⊥
-AreFirst {A} P (a ∷ []) = P a × ((x : A) → P x → x ≡ a)
-AreFirst P (a ∷ (b ∷ [])) = P a × P b × (a ≢ b)
-AreFirst P _ = ⊥
+-- it has the property at this place, and all else has it at later places
+abbrev pub IsLeast : {K A : Type 0} → (K → K → Type 0) → (K → A → Type 0) → K → A → Type 0
+IsLeast {K} {A} Before P k a = P k a × ((l : K) (x : A) → P l x → Before k l ⊎ ((k ≡ l) × (x ≡ a)))
+
+-- in the order of the places where they have a property: none, the only one, or the first and the first that is another
+abbrev pub AreFirst : {K A : Type 0} → (K → K → Type 0) → (K → A → Type 0) → List A → Type 0
+AreFirst {K} {A} Before P [] = (k : K) (x : A) → P k x → ⊥
+AreFirst {K} {A} Before P (a ∷ []) = ((k : K) × IsLeast Before P k a) × ((l : K) (x : A) → P l x → x ≡ a)
+AreFirst {K} {A} Before P (a ∷ (b ∷ [])) =
+    ((k : K) × IsLeast Before P k a) × ((m : K) × IsLeast Before (λ l x. P l x × (x ≢ a)) m b)
+AreFirst Before P _ = ⊥
 
 -- the first two of what stands in the first list or the second
 abbrev pub AreJoined : {A : Type 0} → (first second joined : List A) → Type 0

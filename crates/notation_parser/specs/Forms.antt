@@ -6,14 +6,15 @@ use Rattle.scheme_terms.specs.declared.scheme.MetaDecl.{MetaDecl}
 use Rattle.scheme_terms.specs.declared.scheme.Root.TheVariants.{Closed}
 use Rattle.rule_schemes.specs.Reading.{Token, bare}
 use Rattle.rule_schemes.specs.Rules.{JudgmentScheme}
+use Rattle.rule_schemes.specs.Said.{Way}
 use Rattle.rule_schemes.specs.declared.rule.Judgment.{Judgment}
 use Rattle.notation_parser.specs.Cases.{IsMade}
 
-abbrev pub IsFormAt : Signature → List MetaDecl → List Judgment → (number : ℕ) → List Token → SchemeTree → Type 0
-IsFormAt sig metas js k ts s = (j : Judgment) × (slice_get js k ≡ Some j) × IsMade sig metas k j.items ts s
+abbrev pub IsFormAt : Signature → List MetaDecl → List Judgment → (number : ℕ) → List Token → Way → SchemeTree → Type 0
+IsFormAt sig metas js k ts w s = (j : Judgment) × (slice_get js k ≡ Some j) × IsMade sig metas k k j.items ts w s
 
-abbrev pub IsForm : Signature → List MetaDecl → List Judgment → List Token → SchemeTree → Type 0
-IsForm sig metas js ts s = (k : ℕ) × IsFormAt sig metas js k ts s
+abbrev pub IsForm : Signature → List MetaDecl → List Judgment → List Token → Way → SchemeTree → Type 0
+IsForm sig metas js ts w s = (k : ℕ) × IsFormAt sig metas js k ts w s
 
 abbrev pub closed_judgment : ℕ → List SchemeTree → JudgmentScheme
 closed_judgment k ss = record { judgment = k; context = record { root = Closed; entries = [] }; args = ss }

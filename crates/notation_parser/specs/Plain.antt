@@ -1,5 +1,5 @@
 -- Forms in which nothing binds: what is read so far.
-use Rattle.std.specs.Prelude.{◌≡◌, List, [], None}
+use Rattle.std.specs.Prelude.{◌≡◌, ◌≢◌, List, [], ◌∷◌, None}
 use Rattle.std.specs.List.{AllByRecursion}
 use Rattle.binding_terms.specs.Signature.{Signature}
 use Rattle.scheme_terms.specs.declared.scheme.MetaDecl.{MetaDecl}
@@ -7,9 +7,15 @@ use Rattle.rule_schemes.specs.Reading.{ReadingScope, not_fresh}
 use Rattle.rule_schemes.specs.Said.{Want, want_term, want_judgment, want_context}
 use Rattle.rule_schemes.specs.declared.rule.Judgment.{Judgment}
 
--- no category has variables, and no metavariable has parameters
+-- no two metavariables have one name
+abbrev pub NamesApart : List MetaDecl → Type 0
+NamesApart [] = Unit {0}
+NamesApart (m ∷ metas) = AllByRecursion (λ n. m.name ≢ n.name) metas × NamesApart metas
+
+-- no category has variables, no two metavariables have one name, and no metavariable has parameters
 pub record NothingBinds (sig : Signature) (metas : List MetaDecl) : Type 0 where
   pub variables : AllByRecursion (λ c. c.var ≡ None) sig.cats
+  pub names : NamesApart metas
   pub parameters : AllByRecursion (λ m. m.params ≡ []) metas
 
 abbrev pub IsNoContext : Want → Type 0

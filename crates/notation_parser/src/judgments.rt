@@ -2,7 +2,7 @@
 ghost use Rattle.std.specs.Prelude.{◌≡◌, IfOk, map};
 ghost use Rattle.scheme_terms.specs.View.{scheme, scheme_parts};
 ghost use Rattle.rule_schemes.specs.Reading.{bare};
-ghost use Rattle.rule_schemes.specs.Said.{a_judgment};
+ghost use Rattle.rule_schemes.specs.Said.{a_judgment, IsBefore};
 ghost use Rattle.notation_parser.specs.Cases.{IsMade};
 ghost use Rattle.notation_parser.specs.Firsts.{listed, AreFirst};
 ghost use Rattle.notation_parser.specs.Forms.{IsForm, closed_judgment, judgment_of};
@@ -30,7 +30,7 @@ fn form(
 ) -> Result<Firsts<Scheme>, NoMemory>
     requires { NothingBinds sig.now metas.now }
     ensures { IfOk result
-        (λ found. AreFirst (IsMade sig.now metas.now id.0 items.now (map token tokens.now)) (listed scheme found)) }
+        (λ found. AreFirst IsBefore (IsMade sig.now metas.now id.0 id.0 items.now (map token tokens.now)) (listed scheme found)) }
 {
     let kept = splits(alloc, items, 0, tokens, 0)?;
     let all = kept.as_slice();
@@ -56,7 +56,7 @@ pub fn forms(
 ) -> Result<Firsts<Scheme>, NoMemory>
     requires { NothingBinds sig.now metas.now }
     ensures { IfOk result
-        (λ found. AreFirst (IsForm sig.now metas.now judgments.now (map token tokens.now)) (listed scheme found)) }
+        (λ found. AreFirst IsBefore (IsForm sig.now metas.now judgments.now (map token tokens.now)) (listed scheme found)) }
 {
     let mut found = Firsts::Nothing;
     for k in 0..judgments.len() {

@@ -1,8 +1,8 @@
 // The test of what is read so far.
-ghost use Rattle.std.specs.Prelude.{◌≡◌, ◌↔◌, IsTrue, None, [], map};
+ghost use Rattle.std.specs.Prelude.{◌≡◌, ◌≢◌, ◌↔◌, IsTrue, None, [], map};
 ghost use Rattle.scheme_terms.specs.View.{known_variable};
 ghost use Rattle.std.specs.List.{AllByRecursion};
-ghost use Rattle.notation_parser.specs.Plain.{IsPlain, IsNoContext};
+ghost use Rattle.notation_parser.specs.Plain.{IsPlain, NamesApart, IsNoContext};
 ghost use Rattle.rule_schemes.specs.Reading.{not_fresh};
 ghost use Rattle.notation_parser.specs.View.{wanted, reading_scope, freshness_of, scope_words};
 
@@ -26,6 +26,34 @@ fn no_parameters(metas: &[MetaDecl]) -> bool
 {
     for meta in metas {
         if !meta.params.is_empty() {
+            return false;
+        }
+    }
+    true
+}
+
+fn is_named_as(one: &MetaDecl, other: &MetaDecl) -> bool
+    ensures { IsTrue result ↔ (one.now.name ≡ other.now.name) }
+{
+    one.name.bytes() == other.name.bytes()
+}
+
+fn is_new(one: &MetaDecl, metas: &[MetaDecl]) -> bool
+    ensures { IsTrue result ↔ AllByRecursion (λ m. one.now.name ≢ m.name) metas.now }
+{
+    for meta in metas {
+        if is_named_as(one, meta) {
+            return false;
+        }
+    }
+    true
+}
+
+fn names_apart(metas: &[MetaDecl]) -> bool
+    ensures { IsTrue result ↔ NamesApart metas.now }
+{
+    for i in 0..metas.len() {
+        if !is_new(&metas[i], &metas[i + 1..]) {
             return false;
         }
     }
@@ -80,6 +108,7 @@ pub fn is_plain(sig: &Sig, judgments: &Vec<Judgment>, scope: &ReadScope, want: W
     ensures { IsTrue result ↔ IsPlain sig.now judgments.now.items (reading_scope scope.now) (wanted want) }
 {
     no_variables(sig.cats().as_slice())
+        && names_apart(scope.scope.metas.as_slice())
         && no_parameters(scope.scope.metas.as_slice())
         && no_contexts(judgments.as_slice())
         && no_knowns(scope.scope.knowns.as_slice())

@@ -1,11 +1,12 @@
-ghost use Rattle.std.specs.Prelude.{◌≡◌, ◌≢◌, ◌↔◌, ◌<◌, ◌≤◌, IsTrue, IfOk, [], map, reverse, length, slice_range};
+ghost use Rattle.std.specs.Prelude.{◌≡◌, ◌+◌, ◌≢◌, ◌↔◌, ◌<◌, ◌≤◌, IsTrue, IfOk, [], map, reverse, length, slice_range};
 ghost use Rattle.scheme_terms.specs.View.{scheme, scheme_part, parts_of};
 ghost use Rattle.scheme_terms.specs.SchemeTree.{con};
 ghost use Rattle.binding_terms.specs.Signature.{IsSingle};
-ghost use Rattle.rule_schemes.specs.Reading.{ReadsTerm};
+ghost use Rattle.rule_schemes.specs.Said.{IsBefore, AreBefore};
+ghost use Rattle.notation_parser.specs.Ordered.{ReadsTermAt};
 ghost use Rattle.notation_parser.specs.Cases.{IsGroup, IsName, IsNameOf, IsMade, IsProduct};
 ghost use Rattle.notation_parser.specs.Firsts.{listed, AreFirst, backwards};
-ghost use Rattle.notation_parser.specs.Plain.{NothingBinds};
+ghost use Rattle.notation_parser.specs.Plain.{NamesApart, NothingBinds};
 ghost use Rattle.notation_parser.specs.Splitting.{AreWithin, ReadsPieces};
 ghost use Rattle.notation_parser.specs.View.{token};
 
@@ -70,7 +71,7 @@ fn name(
     cat: CatId,
     tokens: &[Token<'_>],
 ) -> Result<Firsts<Scheme>, NoMemory>
-    ensures { IfOk result (λ found. AreFirst (IsNameOf m decl.now cat.0 (map token tokens.now)) (listed scheme found)) }
+    ensures { IfOk result (λ found. AreFirst IsBefore (IsNameOf m decl.now cat.0 (map token tokens.now)) (listed scheme found)) }
 {
     if tokens.len() != 1 {
         return Ok(Firsts::Nothing);
@@ -88,7 +89,8 @@ fn names(
     cat: CatId,
     tokens: &[Token<'_>],
 ) -> Result<Firsts<Scheme>, NoMemory>
-    ensures { IfOk result (λ found. AreFirst (IsName metas.now cat.0 (map token tokens.now)) (listed scheme found)) }
+    requires { NamesApart metas.now }
+    ensures { IfOk result (λ found. AreFirst IsBefore (IsName metas.now cat.0 (map token tokens.now)) (listed scheme found)) }
 {
     let mut found = Firsts::Nothing;
     for m in 0..metas.len() {
@@ -129,7 +131,7 @@ pub fn parts(
     requires plain { NothingBinds sig.now metas.now }
     requires within { AreWithin (length tokens.now) (reverse pieces.now) }
     ensures { IfOk result
-        (λ found. AreFirst (ReadsPieces sig.now metas.now (map token tokens.now) (reverse pieces.now)) (listed backwards found)) }
+        (λ found. AreFirst AreBefore (ReadsPieces sig.now metas.now (map token tokens.now) (reverse pieces.now)) (listed backwards found)) }
 {
     let mut found = Firsts::One(Items::new(alloc));
     for piece in pieces {
@@ -157,7 +159,7 @@ fn made(
     requires some { items.now ≢ [] }
     requires not_single { IsSingle items.now → ⊥ }
     ensures { IfOk result
-        (λ found. AreFirst (IsMade sig.now metas.now prod.0 items.now (map token tokens.now)) (listed scheme found)) }
+        (λ found. AreFirst IsBefore (IsMade sig.now metas.now (3 + prod.0) prod.0 items.now (map token tokens.now)) (listed scheme found)) }
 {
     let kept = splits(alloc, items, 0, tokens, 0)?;
     let all = kept.as_slice();
@@ -186,7 +188,7 @@ fn product(
     requires plain { NothingBinds sig.now metas.now }
     requires within { p < length sig.now.prods }
     ensures { IfOk result
-        (λ found. AreFirst (IsProduct sig.now metas.now p cat.0 (map token tokens.now)) (listed scheme found)) }
+        (λ found. AreFirst IsBefore (IsProduct sig.now metas.now p cat.0 (map token tokens.now)) (listed scheme found)) }
 {
     sig.always_fits();
     let prod = &sig.prods()[p];
@@ -208,7 +210,7 @@ fn group(
 ) -> Result<Firsts<Scheme>, NoMemory>
     requires { NothingBinds sig.now metas.now }
     ensures { IfOk result
-        (λ found. AreFirst (IsGroup sig.now metas.now cat.0 (map token tokens.now)) (listed scheme found)) }
+        (λ found. AreFirst IsBefore (IsGroup sig.now metas.now cat.0 (map token tokens.now)) (listed scheme found)) }
 {
     let count = tokens.len();
     if count < 2 {
@@ -234,7 +236,7 @@ pub fn terms(
 ) -> Result<Firsts<Scheme>, NoMemory>
     requires { NothingBinds sig.now metas.now }
     ensures { IfOk result
-        (λ found. AreFirst (ReadsTerm sig.now metas.now [] cat.0 (map token tokens.now)) (listed scheme found)) }
+        (λ found. AreFirst IsBefore (ReadsTermAt sig.now metas.now [] cat.0 (map token tokens.now)) (listed scheme found)) }
 {
     let groups = group(alloc, sig, metas, cat, tokens)?;
     let named = names(alloc, metas, cat, tokens)?;

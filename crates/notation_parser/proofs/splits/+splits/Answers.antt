@@ -2,7 +2,7 @@ use Rattle.std.proofs.Common.{◌≡◌, ◌+◌, ◌<◌, ◌≤◌, [], get_or
 use Rattle.std.proofs.lemmas.List.{length-map}
 use Rattle.rule_schemes.specs.Reading.{IsTerminal}
 use Rattle.notation_parser.specs.View.{token}
-use Rattle.notation_parser.proofs.Splitting.{one_end_more, item_splits, token_or_at, no_token, no_word_left, another_word, word_item_splits, if_ok}
+use Rattle.notation_parser.proofs.Splitting.{one_end_more, one_end_later, none_so_short, all_so_long, no_binder, item_splits, token_or_at, no_token, no_word_left, another_word, word_item_splits, if_ok}
 use Rattle.notation_parser.proofs.splits.+splits.Goals as goal
 
 pub slot_splits-loop-to-preserved : goal.slot_splits-loop-to-preserved
@@ -10,8 +10,26 @@ slot_splits-loop-to-preserved t c =
     let ts = map token c.args.tokens.now in
     let some : c.args.from < c.loop-to.to = omega arith in
     let within : c.loop-to.to ≤ length ts = omega (arith, length-map c.args.tokens.now token) in
-    λ ps. rw (c.in_ok-add_before.ensures, c.as_slice.ensures, c.len-binds.ensures)
-    (one_end_more ts c.args.cat c.args.binds.now (drop c.args.at c.args.items.now) c.args.from c.loop-to.to _ _ some within c.loop-to.invariant c.in_ok-more.ensures ps)
+    (
+      λ ps. rw (c.in_ok-add_before.ensures, c.as_slice.ensures, c.len-binds.ensures)
+      (one_end_more ts c.args.cat c.args.binds.now (drop c.args.at c.args.items.now) c.args.from c.loop-to.to _ _ some within c.loop-to.invariant.0 c.in_ok-more.ensures ps),
+      rw (c.in_ok-add_before.ensures, c.as_slice.ensures, c.len-binds.ensures)
+      (one_end_later ts c.args.cat c.args.binds.now (drop c.args.at c.args.items.now) c.args.from c.loop-to.to _ _ some c.loop-to.invariant.0 c.loop-to.invariant.1 c.in_ok-more.ensures),
+    )
+
+pub slot_splits-loop-to-init : goal.slot_splits-loop-to-init
+slot_splits-loop-to-init t c =
+    let ts = map token c.args.tokens.now in
+    (
+      λ ps. rw c.new-all.ensures (none_so_short ts c.args.cat c.args.binds.now (drop c.args.at c.args.items.now) c.args.from ps),
+      rw c.new-all.ensures tt,
+    )
+
+pub slot_splits-returns : goal.slot_splits-returns
+slot_splits-returns t c =
+    let ts = map token c.args.tokens.now in
+    let long : length ts < c.loop-to.to = omega (arith, length-map c.args.tokens.now token) in
+    all_so_long ts c.args.cat c.args.binds.now (drop c.args.at c.args.items.now) c.args.from c.loop-to.to _ long c.loop-to.invariant.0 c.loop-to.invariant.1
 
 pub splits-returns-then-from-tokens : goal.splits-returns-then-from-tokens
 splits-returns-then-from-tokens t c =

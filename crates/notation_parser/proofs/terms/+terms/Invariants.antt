@@ -3,6 +3,7 @@ use Rattle.scheme_terms.specs.View.{scheme}
 use Rattle.notation_parser.specs.Cases.{IsReadBelow}
 use Rattle.notation_parser.specs.Firsts.{listed, AreFirst, backwards}
 use Rattle.notation_parser.specs.Splitting.{longest, ReadsPieces}
+use Rattle.rule_schemes.specs.Said.{IsBefore, AreBefore}
 use Rattle.notation_parser.specs.View.{token}
 use Rattle.notation_parser.proofs.TermCases.{IsMadeIn}
 use Rattle.notation_parser.proofs.terms.+terms.Given as goal
@@ -24,11 +25,11 @@ decreases-parts l = 4 * longest (reverse l.pieces.now) + 4
 
 abbrev pub invariant-parts-loop-piece : goal.invariant-parts-loop-piece
 invariant-parts-loop-piece l =
-    AreFirst (ReadsPieces l.sig l.metas (map token l.tokens) (reverse (take l.piece-index l.pieces))) (listed backwards l.found)
+    AreFirst AreBefore (ReadsPieces l.sig l.metas (map token l.tokens) (reverse (take l.piece-index l.pieces))) (listed backwards l.found)
 
 abbrev pub invariant-made-loop-split : goal.invariant-made-loop-split
 invariant-made-loop-split l =
-    AreFirst (IsMadeIn l.sig l.metas l.prod.0 (map token l.tokens) (map reverse (take l.split-index l.all))) (listed scheme l.found)
+    AreFirst IsBefore (IsMadeIn l.sig l.metas (3 + l.prod.0) l.prod.0 (map token l.tokens) (map reverse (take l.split-index l.all))) (listed scheme l.found)
 
 abbrev pub invariant-terms-loop-p : goal.invariant-terms-loop-p
-invariant-terms-loop-p l = AreFirst (IsReadBelow l.p l.sig l.metas l.cat.0 (map token l.tokens)) (listed scheme l.found)
+invariant-terms-loop-p l = AreFirst IsBefore (IsReadBelow l.p l.sig l.metas l.cat.0 (map token l.tokens)) (listed scheme l.found)

@@ -1,0 +1,6 @@
+use Rattle.std.proofs.Common.{◌↔◌, drop}
+use Rattle.notation_parser.specs.Plain.{NamesApart}
+use Rattle.notation_parser.proofs.plain.names_apart.Given as goal
+
+abbrev pub invariant-loop-i : goal.invariant-loop-i
+invariant-loop-i l = NamesApart (drop l.i l.metas) ↔ NamesApart l.metas
