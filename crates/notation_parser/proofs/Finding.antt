@@ -100,8 +100,13 @@ AreFirst-map {K} {L} {A} {B} BeforeK BeforeL g f P (a ∷ []) keeps apart h =
     later l y s (inr e) = inr (ap g e.0 ∙ sym s.2, s.3 ∙ ap f e.1)
 AreFirst-map {K} {L} {A} {B} BeforeK BeforeL g f P (a ∷ (b ∷ [])) keeps apart h = (
   (g h.0.0, ((h.0.0, a, refl, refl, h.0.1.0), λ l y s. later l y s (h.0.1.1 s.0 s.1 s.4))),
-  (g h.1.0, (((h.1.0, b, refl, refl, h.1.1.0.0), λ e. h.1.1.0.1 (apart h.1.0 h.0.0 b a h.1.1.0.0 h.0.1.0 e)),
-    λ l y s. another l y s.0 (h.1.1.1 s.0.0 s.0.1 (s.0.4, λ e. s.1 (s.0.3 ∙ ap f e))))),
+  (
+    g h.1.0,
+    (
+      ((h.1.0, b, refl, refl, h.1.1.0.0), λ e. h.1.1.0.1 (apart h.1.0 h.0.0 b a h.1.1.0.0 h.0.1.0 e)),
+      λ l y s. another l y s.0 (h.1.1.1 s.0.0 s.0.1 (s.0.4, λ e. s.1 (s.0.3 ∙ ap f e))),
+    ),
+  ),
 )
   where
     later : (l : L) (y : B) → (s : IsMapped g f P l y) → BeforeK h.0.0 s.0 ⊎ ((h.0.0 ≡ s.0) × (s.1 ≡ a)) → BeforeL (g h.0.0) l ⊎ ((g h.0.0 ≡ l) × (y ≡ f a))
@@ -139,7 +144,7 @@ module _ {K L M A B C : Type 0} (BeforeK : K → K → Type 0) (BeforeL : L → 
   second_right k l a c d p q = (
     ((k, l, a, d, refl, refl, p.0, q.0.0), λ e. q.0.1 ((apart a a d c e).1)),
     λ m z s. by_parts k l a d m z s.0 (p.1 s.0.0 s.0.2 s.0.6)
-    (λ same. q.1 s.0.1 s.0.3 (s.0.7, λ e. s.1 (s.0.5 ∙ ap (λ x. f x s.0.3) same ∙ ap (f a) e))),
+        (λ same. q.1 s.0.1 s.0.3 (s.0.7, λ e. s.1 (s.0.5 ∙ ap (λ x. f x s.0.3) same ∙ ap (f a) e))),
   )
 
   -- the second, where the first part alone has another
@@ -148,7 +153,7 @@ module _ {K L M A B C : Type 0} (BeforeK : K → K → Type 0) (BeforeL : L → 
   second_left k l a b c p q only = (
     ((k, l, b, c, refl, refl, p.0.0, q.0), λ e. p.0.1 ((apart b a c c e).0)),
     λ m z s. by_parts k l b c m z s.0
-    (p.1 s.0.0 s.0.2 (s.0.6, λ e. s.1 (s.0.5 ∙ ap (λ x. f x s.0.3) e ∙ ap (f a) (only s.0.1 s.0.3 s.0.7)))) (λ _. q.1 s.0.1 s.0.3 s.0.7),
+        (p.1 s.0.0 s.0.2 (s.0.6, λ e. s.1 (s.0.5 ∙ ap (λ x. f x s.0.3) e ∙ ap (f a) (only s.0.1 s.0.3 s.0.7)))) (λ _. q.1 s.0.1 s.0.3 s.0.7),
   )
 
   pub AreFirst-paired : (xs : List A) (ys : List B) → AreFirst BeforeK P xs → AreFirst BeforeL Q ys → AreFirst BeforeM (IsPair g f P Q) (paired f xs ys)

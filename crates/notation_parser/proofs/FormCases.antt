@@ -112,9 +112,11 @@ module _ (sig : Signature) (metas : List MetaDecl) (none : AllByRecursion (λ (k
       let k = form_items r v c in
       let scope : slot_variables [] binds ++ [] ≡ [] = ap (λ vs. vs ++ []) (no_slot_variables binds) in
       let bare_term : ReadsTermAt sig metas [] id.0 first (way_of_term t) s = subst (λ vs. ReadsTermAt sig metas vs id.0 first (way_of_term t) s) v (t, refl) in
-      let under = subst (λ vs. ReadsTermAt sig metas vs id.0 first (way_of_term t) s) (sym scope) bare_term in
-      (part (length binds) s k.0, ap (λ ss. s ∷ ss) k.1,
-      (slot split some under.0 k.2.0, ap (λ ls. length first ∷ ls) k.2.1, ap (λ w. then_way w (ways_of_items k.2.0)) under.1 ∙ ap (then_way (way_of_term t)) k.2.2))
+      let under = subst (λ vs. ReadsTermAt sig metas vs id.0 first (way_of_term t) s) (sym scope) bare_term in (
+        part (length binds) s k.0,
+        ap (λ ss. s ∷ ss) k.1,
+        (slot split some under.0 k.2.0, ap (λ ls. length first ∷ ls) k.2.1, ap (λ w. then_way w (ways_of_items k.2.0)) under.1 ∙ ap (then_way (way_of_term t)) k.2.2),
+      )
 
   pub items_form : {vars own : List Variable} {words : List (List ℕ)} {items : List Item} {tokens : List Token} {xs : Parts}
       → (r : ReadsItems sig metas vars own words items tokens xs) → vars ≡ [] → own ≡ [] → ReadsFormAt sig metas [] items tokens (item_lengths r) (ways_of_items r) (bare xs)

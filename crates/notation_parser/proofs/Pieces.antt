@@ -135,7 +135,7 @@ module _ (sig : Signature) (metas : List MetaDecl) (none : AllByRecursion (λ (k
       → ReadsItemsAt sig metas items ts ls ws xs ↔ ((ps : List Piece) × Contains all ps × (ls ≡ lengths ps) × ReadsPieces sig metas ts ps ws xs)
   items_read ts items all ls ws xs splits = (
     λ r. (let s = split_of r.0 refl refl ts 0 (omega arith) refl in
-    (s.0, (splits.splits s.0).0 s.1, sym (s.2 ∙ r.1), subst (λ vs. ReadsPieces sig metas ts s.0 vs xs) r.2 s.3)),
+        (s.0, (splits.splits s.0).0 s.1, sym (s.2 ∙ r.1), subst (λ vs. ReadsPieces sig metas ts s.0 vs xs) r.2 s.3)),
     λ s. subst (λ ks. ReadsItemsAt sig metas items ts ks ws xs) (sym s.2) (read_split ts items 0 s.0 ws xs (omega arith) ((splits.splits s.0).1 s.1) s.3),
   )
 

@@ -199,8 +199,8 @@ pub no_word_left : (ts : List Token) (text : List ℕ) (quoted : Bool) (items : 
 no_word_left ts text quoted items n e =
     record {
       splits = λ ps. (
-  λ s. absurd (subst (λ o. MatchOption o ⊥ (λ t. IsTerminal text t × IsSplit ts items (n + 1) ps)) (slice_get_past ts n (omega arith)) s),
-  λ s. absurd (omega (arith, s.1)),
+        λ s. absurd (subst (λ o. MatchOption o ⊥ (λ t. IsTerminal text t × IsSplit ts items (n + 1) ps)) (slice_get_past ts n (omega arith)) s),
+        λ s. absurd (omega (arith, s.1)),
       );
       in_order = tt;
     }
@@ -210,8 +210,8 @@ pub another_word : (ts : List Token) (text : List ℕ) (quoted : Bool) (items : 
 another_word ts text quoted items n t e h =
     record {
       splits = λ ps. (
-  λ s. absurd (h ((subst (λ o. MatchOption o ⊥ (λ t. IsTerminal text t × IsSplit ts items (n + 1) ps)) e s).0)),
-  λ s. absurd (omega (arith, s.1)),
+        λ s. absurd (h ((subst (λ o. MatchOption o ⊥ (λ t. IsTerminal text t × IsSplit ts items (n + 1) ps)) e s).0)),
+        λ s. absurd (omega (arith, s.1)),
       );
       in_order = tt;
     }

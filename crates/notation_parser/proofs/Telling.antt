@@ -72,9 +72,13 @@ module _ (sig : Signature) (js : List Judgment) (scope : ReadingScope) (want : W
       term_of : {ms : List MetaDecl} {v : Want} {x : Written} {ks : List KnownVariable} → (r : ReadsWanted sig js scope ms ts v x ks) → v ≡ want_term c → ms ≡ scope.names.metas
           → (s : SchemeTree) × (x ≡ a_term s) × (ks ≡ []) × ReadsTermAt sig scope.names.metas [] c ts (way_of_wanted r) s
       term_of {ms = ms} (reads_term {c = d} {s = s} r) e m =
-          let same : d ≡ c = cc in
-          (s, refl, refl, subst (λ k. ReadsTermAt sig scope.names.metas [] k ts (way_of_term r) s) same
-          (subst (λ ns. ReadsTermAt sig ns [] d ts (way_of_term r) s) m (subst (λ vs. ReadsTermAt sig ms vs d ts (way_of_term r) s) bare_variables (r, refl))))
+          let same : d ≡ c = cc in (
+            s,
+            refl,
+            refl,
+            subst (λ k. ReadsTermAt sig scope.names.metas [] k ts (way_of_term r) s) same
+                (subst (λ ns. ReadsTermAt sig ns [] d ts (way_of_term r) s) m (subst (λ vs. ReadsTermAt sig ms vs d ts (way_of_term r) s) bare_variables (r, refl))),
+          )
       term_of (reads_judgment r) e m = cc
       term_of (reads_context {c = d} r) e m = cc
 
@@ -121,9 +125,12 @@ module _ (sig : Signature) (js : List Judgment) (scope : ReadingScope) (want : W
           (subst (λ vs. ReadsFormAt sig ms vs j.items ts (form_lengths r) (ways_of_form nowhere r) ss) bare_scope (r, refl, refl)) in
           let items = form_items sig scope.names.metas plain.nothing_binds.variables read.0 refl refl in
           let place : way k (form_lengths r) (ways_of_form nowhere r) ≡ way k (form_lengths read.0) (ways_of_form nowhere read.0) =
-          ap (λ ls. way k ls (ways_of_form nowhere r)) (sym read.1) ∙ ap (way k (form_lengths read.0)) (sym read.2) in
-          (con k items.0, ap (closed_judgment k) items.1, refl,
-          (k, (j, found, (items.0, form_lengths read.0, ways_of_form nowhere read.0, place, refl, items.2))))
+          ap (λ ls. way k ls (ways_of_form nowhere r)) (sym read.1) ∙ ap (way k (form_lengths read.0)) (sym read.2) in (
+            con k items.0,
+            ap (closed_judgment k) items.1,
+            refl,
+            (k, (j, found, (items.0, form_lengths read.0, ways_of_form nowhere read.0, place, refl, items.2))),
+          )
       judgment_read (with_context {k = k} {j = j} {id = id} found assumes ctx r) m =
           let closed : j.ctx ≡ None = all_at (λ (j : Judgment). j.ctx ≡ None) js k j plain.judgments found in
           let never : Some id ≡ None = sym assumes ∙ closed in
@@ -182,8 +189,10 @@ module _ (sig : Signature) (js : List Judgment) (scope : ReadingScope) (want : W
     reads = record { want = want; here = refl; reads = f.0.0.0 };
     new = ((λ e. f.0.1 (sym (ap (λ (o : ℕ × Said). o.1) e))), tt);
     first = λ other r ne out. go other r ne
-    (f.1 (way_of_wanted r.reads.form) other.1 (wanted_at sig js scope want ts other r,
-    λ e. (let zero_is : other.0 ≡ 0 = (only_want want r.want other.0 r.here).0 in out.0 (λ i. (sym zero_is i, sym e i)))));
+        (f.1 (way_of_wanted r.reads.form) other.1 (
+          wanted_at sig js scope want ts other r,
+          λ e. (let zero_is : other.0 ≡ 0 = (only_want want r.want other.0 r.here).0 in out.0 (λ i. (sym zero_is i, sym e i))),
+        ));
   }
     where
       go : (other : ℕ × Said) (r : ReadsAs sig js scope (want ∷ []) ts other) → other ≢ (0, b)
@@ -223,7 +232,7 @@ module _ (sig : Signature) (js : List Judgment) (scope : ReadingScope) (want : W
     (
       subst (λ x. IsFirstWithout sig js scope (want ∷ []) ts [] (0, x)) (sym t.0) (first_of_two f.0.0 (plainly v) f.0.1),
       subst (λ y. IsFirstWithout sig js scope (want ∷ []) ts ((0, what_is_said a) ∷ []) (0, y)) (sym t.1)
-      (subst (λ x. IsFirstWithout sig js scope (want ∷ []) ts ((0, x) ∷ []) (0, plainly w)) (sym t.0) (second_of_two f.1.0 (plainly v) (plainly w) f.1.1)),
+          (subst (λ x. IsFirstWithout sig js scope (want ∷ []) ts ((0, x) ∷ []) (0, plainly w)) (sym t.0) (second_of_two f.1.0 (plainly v) (plainly w) f.1.1)),
     ),
   )
   answered (v ∷ (w ∷ [])) (TooLong k) h f t = absurd t

@@ -232,7 +232,7 @@ pub made_in_splits : (sig : Signature) (metas : List MetaDecl) (alternative p : 
 made_in_splits sig metas alternative p items ts all w s plain splits = (
   λ h. (let m = h.2 in (m.1, lengths h.0, m.0, m.2, m.3, (items_read sig metas plain.variables ts items all (lengths h.0) m.0 m.1 splits).1 (h.0, h.1, refl, m.4))),
   λ h. (let r = (items_read sig metas plain.variables ts items all h.1 h.2 h.0 splits).0 h.5 in
-  (r.0, r.1, (h.2, h.0, h.3 ∙ ap (λ ls. way alternative ls h.2) r.2, h.4, r.3))),
+      (r.0, r.1, (h.2, h.0, h.3 ∙ ap (λ ls. way alternative ls h.2) r.2, h.4, r.3))),
 )
 
 -- one slot more before others
@@ -398,8 +398,8 @@ group_read sig metas c ts d found h first last f =
     (λ w s. (
       (λ k. (mid, k.0, around, k.2, subst (ReadsTermAt sig metas [] c mid k.0) (sym k.3) k.4)),
       (λ k. (let two : punctuation 40 ∷ (k.0 ++ punctuation 41 ∷ []) ≡ punctuation 40 ∷ (mid ++ punctuation 41 ∷ []) = sym k.2 ∙ around in
-      let inner : k.0 ++ punctuation 41 ∷ [] ≡ mid ++ punctuation 41 ∷ [] = cc in
-      (k.1, s, k.3, refl, subst (λ us. ReadsTermAt sig metas [] c us k.1 s) (append_cancel_right k.0 mid (punctuation 41 ∷ []) inner) k.4))),
+          let inner : k.0 ++ punctuation 41 ∷ [] ≡ mid ++ punctuation 41 ∷ [] = cc in
+          (k.1, s, k.3, refl, subst (λ us. ReadsTermAt sig metas [] c us k.1 s) (append_cancel_right k.0 mid (punctuation 41 ∷ []) inner) k.4))),
     ))
     (AreFirst-map IsBefore IsBefore (λ v. way 0 [] (then_way v no_ways)) (λ s. s) (ReadsTermAt sig metas [] c mid) found
     (λ k l b. inr (refl, inr (refl, inl b))) (λ k l a b p q e. e) f))

@@ -9,18 +9,16 @@ pub slot_splits-loop-to-preserved : goal.slot_splits-loop-to-preserved
 slot_splits-loop-to-preserved t c =
     let ts = map token c.args.tokens.now in
     let some : c.args.from < c.loop-to.to = omega arith in
-    let within : c.loop-to.to ≤ length ts = omega (arith, length-map c.args.tokens.now token) in
-    (
+    let within : c.loop-to.to ≤ length ts = omega (arith, length-map c.args.tokens.now token) in (
       λ ps. rw (c.in_ok-add_before.ensures, c.as_slice.ensures, c.len-binds.ensures)
-      (one_end_more ts c.args.cat c.args.binds.now (drop c.args.at c.args.items.now) c.args.from c.loop-to.to _ _ some within c.loop-to.invariant.0 c.in_ok-more.ensures ps),
+          (one_end_more ts c.args.cat c.args.binds.now (drop c.args.at c.args.items.now) c.args.from c.loop-to.to _ _ some within c.loop-to.invariant.0 c.in_ok-more.ensures ps),
       rw (c.in_ok-add_before.ensures, c.as_slice.ensures, c.len-binds.ensures)
-      (one_end_later ts c.args.cat c.args.binds.now (drop c.args.at c.args.items.now) c.args.from c.loop-to.to _ _ some c.loop-to.invariant.0 c.loop-to.invariant.1 c.in_ok-more.ensures),
+          (one_end_later ts c.args.cat c.args.binds.now (drop c.args.at c.args.items.now) c.args.from c.loop-to.to _ _ some c.loop-to.invariant.0 c.loop-to.invariant.1 c.in_ok-more.ensures),
     )
 
 pub slot_splits-loop-to-init : goal.slot_splits-loop-to-init
 slot_splits-loop-to-init t c =
-    let ts = map token c.args.tokens.now in
-    (
+    let ts = map token c.args.tokens.now in (
       λ ps. rw c.new-all.ensures (none_so_short ts c.args.cat c.args.binds.now (drop c.args.at c.args.items.now) c.args.from ps),
       rw c.new-all.ensures tt,
     )
