@@ -1,9 +1,25 @@
-// The lines of the worked theories, and beside each its words.
-pub(crate) fn worked_lines() -> &'static [(&'static str, &'static str)] {
-    &LINES
+// The lines of the worked theories, and beside each its words, in five parts.
+pub(crate) fn first_lines() -> &'static [(&'static str, &'static str)] {
+    &FIRST
 }
 
-static LINES: [(&str, &str); 145] = [
+pub(crate) fn second_lines() -> &'static [(&'static str, &'static str)] {
+    &SECOND
+}
+
+pub(crate) fn third_lines() -> &'static [(&'static str, &'static str)] {
+    &THIRD
+}
+
+pub(crate) fn fourth_lines() -> &'static [(&'static str, &'static str)] {
+    &FOURTH
+}
+
+pub(crate) fn fifth_lines() -> &'static [(&'static str, &'static str)] {
+    &FIFTH
+}
+
+static FIRST: [(&str, &str); 29] = [
     ("terminals z s", "terminals z s"),
     ("syntax", "syntax"),
     ("n ::= z | s n", "n ::= z | s n"),
@@ -45,6 +61,9 @@ static LINES: [(&str, &str); 145] = [
     ("judgment value: t value", "judgment value : t value"),
     ("---- v-unit", "---- v-unit"),
     ("unit value", "unit value"),
+];
+
+static SECOND: [(&str, &str); 29] = [
     ("---- v-fn", "---- v-fn"),
     ("fn x : T => t[x] value", "fn x : T => t [ x ] value"),
     ("judgment step: t -> t", "judgment step : t -> t"),
@@ -95,6 +114,9 @@ static LINES: [(&str, &str); 145] = [
     ("inversion on g", "inversion on g"),
     ("_: T2 = T2", "_ : T2 = T2"),
     ("d1: Gamma |- t1 : T2 -> T", "d1 : Gamma |- t1 : T2 -> T"),
+];
+
+static THIRD: [(&str, &str); 29] = [
     ("d2: Gamma |- t2 : T2", "d2 : Gamma |- t2 : T2"),
     ("_: Gamma |- t1 t2 : T", "_ : Gamma |- t1 t2 : T"),
     ("e1: Gamma |- t1 : T3 -> T'", "e1 : Gamma |- t1 : T3 -> T'"),
@@ -154,6 +176,9 @@ static LINES: [(&str, &str); 145] = [
         "proof by substitution on d3 , d2",
     ),
     ("terminals fn", "terminals fn"),
+];
+
+static FOURTH: [(&str, &str); 29] = [
     ("t ::= fn x => t[x] | x", "t ::= fn x => t [ x ] | x"),
     ("judgment same: t = t", "judgment same : t = t"),
     ("t = t", "t = t"),
@@ -207,6 +232,9 @@ static LINES: [(&str, &str); 145] = [
     ),
     ("proof by rule o-f on k", "proof by rule o-f on k"),
     ("terminals top", "terminals top"),
+];
+
+static FIFTH: [(&str, &str); 29] = [
     ("T ::= X | top | T -> T", "T ::= X | top | T -> T"),
     ("t ::= x", "t ::= x"),
     (
