@@ -190,7 +190,6 @@ fn product(
     ensures { IfOk result
         (λ found. AreFirst IsBefore (IsProduct sig.now metas.now p cat.0 (map token tokens.now)) (listed scheme found)) }
 {
-    sig.always_fits();
     let prod = &sig.prods()[p];
     if prod.cat.0 != cat.0 {
         return Ok(Firsts::Nothing);

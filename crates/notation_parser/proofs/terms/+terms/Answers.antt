@@ -100,7 +100,7 @@ product-returns t c =
     let ts = map token c.args.tokens.now in
     let prod = c.index-prod.result.now in
     let found : slice_get sig.prods c.args.p ≡ Some prod =
-    slice_get_read sig.prods _ c.args.p prod refl c.requires.within (rw c.prods.ensures at c.index-prod.ensures) in
+    slice_get_read sig.prods _ c.args.p prod refl c.requires.within (rw c.prods.ensures.value at c.index-prod.ensures) in
     if_ok c.made.result _ _ (λ more f. AreFirst-same IsBefore _ (IsProduct sig c.args.metas.now c.args.p c.args.cat.0 ts) _
     (λ w s. is_product sig c.args.metas.now c.args.p c.args.cat.0 ts prod w s found c.if-prod-cat.false) f)
     (rw (c.in_ok-number.ensures, c.as_slice.ensures) at c.made.ensures)
@@ -149,5 +149,5 @@ pub terms-returns : goal.terms-returns
 terms-returns t c =
     let sig = c.args.sig.now in
     let ts = map token c.args.tokens.now in
-    let all : length sig.prods ≤ c.loop-p.p = omega (arith, ap length c.prods.ensures) in
+    let all : length sig.prods ≤ c.loop-p.p = omega (arith, ap length c.prods.ensures.value) in
     AreFirst-same IsBefore _ (ReadsTermAt sig c.args.metas.now [] c.args.cat.0 ts) _ (λ w s. term_read sig c.args.metas.now c.args.cat.0 ts c.loop-p.p w s c.requires all) c.loop-p.invariant
