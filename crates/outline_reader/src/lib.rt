@@ -11,10 +11,6 @@ mod portions;
 mod reader;
 mod sort;
 mod symbols;
-#[cfg(test)]
-mod tests;
-#[cfg(test)]
-mod worked;
 
 pub use fault::{Limit, OutlineFault, Part};
 pub use parts::{ArgText, Form, InputText, Just, Name, NamedForm, Outline, Portion};
