@@ -12,6 +12,3 @@ mod words;
 pub use plain::is_plain;
 pub use reader::read;
 pub use rule_schemes::{Fresh, ReadScope, Reading, Said, Want, Written};
-
-#[cfg(test)]
-mod tests;
