@@ -8,3 +8,5 @@ pub mod Outline
 pub mod Fields
 pub mod Views
 pub mod Portions
+pub mod Plain
+pub mod Laws
