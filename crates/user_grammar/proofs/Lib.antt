@@ -1,0 +1,4 @@
+pub mod Spellings
+pub mod OneWay
+pub mod OneReading
+pub mod OneSignature
