@@ -8,7 +8,7 @@ use Rattle.binding_terms.specs.declared.grammar.Item.{Item}
 use Rattle.binding_terms.specs.declared.grammar.Item.TheVariants.{Word, Slot, Binder}
 use Rattle.binding_terms.specs.declared.grammar.Prod.{Prod}
 use Rattle.rule_schemes.specs.Reading.{MayBeTerminal}
-use Rattle.user_grammar.specs.Names.{names, category_names, variable_names, IsCategoryWord, AllApart, AllDiffer}
+use Rattle.user_grammar.specs.Names.{names, category_names, variable_names, IsCategoryWord, IsNoSpelling, AllApart, AllDiffer}
 use Rattle.user_grammar.specs.Production.{IsMark, AreNumbers, IsTerminal, AreItems, no_items, terminal, binder, slot, IsProduction, IsVariable}
 use Rattle.user_grammar.specs.Grammar.{AreForms, no_forms, variable, production}
 use Rattle.user_grammar.proofs.Spellings.{Spells, one_category, one_variable, not_both, no_category, no_variable, apart_left, apart_right}
@@ -27,27 +27,27 @@ module _ (cats : List Cat) (listed : List (List ℕ)) (apart : AllApart (names c
   -- no item begins with an opening bracket
   not_opened : {own words : List (List ℕ)} {tokens : List PlainToken} {items : List Item} → AreItems cats listed own tokens items words → NotOpened tokens
   not_opened no_items = tt
-  not_opened (terminal {token = token} is more) = terminal_is_no_mark token is.may_be
+  not_opened (terminal {token = token} is plain more) = terminal_is_no_mark token is.may_be
   not_opened (binder {token = token} kind spells more) = word_is_no_mark token kind
   not_opened (slot {token = token} kind spells bound numbers more) = word_is_no_mark token kind
 
-  terminal_or_binder : (token : PlainToken) (c : ℕ) → IsTerminal cats listed token → token.kind ≡ 0 → Spells cats c token.text → ⊥
-  terminal_or_binder token c is kind spells = no_variable cats c token.text (is.word kind).1 spells
+  terminal_or_binder : (token : PlainToken) (c : ℕ) → (token.kind ≡ 0 → IsNoSpelling (names cats) token.text) → token.kind ≡ 0 → Spells cats c token.text → ⊥
+  terminal_or_binder token c plain kind spells = no_variable cats c token.text (plain kind) spells
 
-  terminal_or_slot : (token : PlainToken) (c : ℕ) → IsTerminal cats listed token → token.kind ≡ 0 → IsCategoryWord cats c token.text → ⊥
-  terminal_or_slot token c is kind spells = no_category cats c token.text (is.word kind).1 spells
+  terminal_or_slot : (token : PlainToken) (c : ℕ) → (token.kind ≡ 0 → IsNoSpelling (names cats) token.text) → token.kind ≡ 0 → IsCategoryWord cats c token.text → ⊥
+  terminal_or_slot token c plain kind spells = no_category cats c token.text (plain kind) spells
 
   -- the words of the binders are those of the tokens
   pub same_words : {own other words others : List (List ℕ)} {tokens : List PlainToken} {items again : List Item}
       → AreItems cats listed own tokens items words → AreItems cats listed other tokens again others → words ≡ others
   same_words no_items no_items = refl
-  same_words (terminal is more) (terminal also rest) = same_words more rest
-  same_words (terminal {token = token} is more) (binder {c = c} kind spells rest) = absurd (terminal_or_binder token c.0 is kind spells)
-  same_words (terminal {token = token} is more) (slot {c = c} kind spells bound numbers rest) = absurd (terminal_or_slot token c.0 is kind spells)
-  same_words (binder {token = token} {c = c} kind spells more) (terminal is rest) = absurd (terminal_or_binder token c.0 is kind spells)
+  same_words (terminal is plain more) (terminal also bare rest) = same_words more rest
+  same_words (terminal {token = token} is plain more) (binder {c = c} kind spells rest) = absurd (terminal_or_binder token c.0 plain kind spells)
+  same_words (terminal {token = token} is plain more) (slot {c = c} kind spells bound numbers rest) = absurd (terminal_or_slot token c.0 plain kind spells)
+  same_words (binder {token = token} {c = c} kind spells more) (terminal is plain rest) = absurd (terminal_or_binder token c.0 plain kind spells)
   same_words (binder {token = token} kind spells more) (binder again also rest) = ap (λ ws. token.text ∷ ws) (same_words more rest)
   same_words (binder {token = token} {c = c} kind spells more) (slot {c = d} again also bound numbers rest) = absurd (not_both cats d.0 c.0 token.text apart also spells)
-  same_words (slot {token = token} {c = c} kind spells bound numbers more) (terminal is rest) = absurd (terminal_or_slot token c.0 is kind spells)
+  same_words (slot {token = token} {c = c} kind spells bound numbers more) (terminal is plain rest) = absurd (terminal_or_slot token c.0 plain kind spells)
   same_words (slot {token = token} {c = c} kind spells bound numbers more) (binder {c = d} again also rest) = absurd (not_both cats c.0 d.0 token.text apart spells also)
   same_words {other = other} {others = others} (slot kind spells bound numbers more) (slot {items = items} again also also_bound ns rest) =
       let same = one_way bound also_bound (not_opened more) (not_opened rest) in
@@ -57,15 +57,15 @@ module _ (cats : List Cat) (listed : List (List ℕ)) (apart : AllApart (names c
   pub same_items : {own words others : List (List ℕ)} {tokens : List PlainToken} {items again : List Item} → AllDiffer own
       → AreItems cats listed own tokens items words → AreItems cats listed own tokens again others → items ≡ again
   same_items differ no_items no_items = refl
-  same_items differ (terminal {token = token} is more) (terminal also rest) = ap (λ left. Word token.text (token.kind == 4) ∷ left) (same_items differ more rest)
-  same_items differ (terminal {token = token} is more) (binder {c = c} kind spells rest) = absurd (terminal_or_binder token c.0 is kind spells)
-  same_items differ (terminal {token = token} is more) (slot {c = c} kind spells bound numbers rest) = absurd (terminal_or_slot token c.0 is kind spells)
-  same_items differ (binder {token = token} {c = c} kind spells more) (terminal is rest) = absurd (terminal_or_binder token c.0 is kind spells)
+  same_items differ (terminal {token = token} is plain more) (terminal also bare rest) = ap (λ left. Word token.text (token.kind == 4) ∷ left) (same_items differ more rest)
+  same_items differ (terminal {token = token} is plain more) (binder {c = c} kind spells rest) = absurd (terminal_or_binder token c.0 plain kind spells)
+  same_items differ (terminal {token = token} is plain more) (slot {c = c} kind spells bound numbers rest) = absurd (terminal_or_slot token c.0 plain kind spells)
+  same_items differ (binder {token = token} {c = c} kind spells more) (terminal is plain rest) = absurd (terminal_or_binder token c.0 plain kind spells)
   same_items differ (binder {token = token} {c = c} {items = items} kind spells more) (binder {c = d} again also rest) =
       ap (λ (n : ℕ). Binder (record { 0 = n }) ∷ items) (one_variable cats c.0 d.0 token.text (apart_right (category_names cats) (variable_names cats) apart) spells also)
       ∙ ap (λ left. Binder d ∷ left) (same_items differ more rest)
   same_items differ (binder {token = token} {c = c} kind spells more) (slot {c = d} again also bound numbers rest) = absurd (not_both cats d.0 c.0 token.text apart also spells)
-  same_items differ (slot {token = token} {c = c} kind spells bound numbers more) (terminal is rest) = absurd (terminal_or_slot token c.0 is kind spells)
+  same_items differ (slot {token = token} {c = c} kind spells bound numbers more) (terminal is plain rest) = absurd (terminal_or_slot token c.0 plain kind spells)
   same_items differ (slot {token = token} {c = c} kind spells bound numbers more) (binder {c = d} again also rest) = absurd (not_both cats c.0 d.0 token.text apart spells also)
   same_items {own = own} {others = others} differ (slot {token = token} {c = c} {bound = bound} {binds = ns} {items = items} kind spells in_brackets numbers more)
       (slot {c = d} {bound = also_bound} {binds = ms} {items = again} again_kind also also_in_brackets also_numbers rest) =

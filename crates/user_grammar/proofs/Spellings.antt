@@ -1,10 +1,11 @@
 -- Names that have no common spelling, and the one name that a word spells.
-use Rattle.std.proofs.Common.{◌≡◌, ◌≢◌, ℕ, zero, suc, List, [], ◌∷◌, ◌++◌, map, Option, None, Some, refl, ap, ◌∙◌, sym, slice_get}
+use Rattle.std.proofs.Common.{◌≡◌, ◌≢◌, ℕ, zero, suc, List, [], ◌∷◌, ◌++◌, map, Option, None, Some, refl, ap, ◌∙◌, sym, subst, inl, inr, ◌⊎◌, slice_get, ◌↔◌, Bool, true, false, not, IsTrue, IsFalse}
+use Rattle.std.proofs.lemmas.List.{append-nil, append_cancel_left}
 use Rattle.std.specs.Option.{MatchOption}
 use Rattle.std.specs.List.{AllByRecursion}
 use Rattle.binding_terms.specs.Signature.{Signature}
 use Rattle.binding_terms.specs.declared.grammar.Cat.{Cat}
-use Rattle.rule_schemes.specs.Reading.{IsSpelling, IsVariableWord}
+use Rattle.rule_schemes.specs.Reading.{IsEnding, IsSpelling, IsVariableWord}
 use Rattle.user_grammar.specs.Names.{names_if, category_names, variable_names, names, IsCategoryWord, IsNoSpelling, AreApart, AllApart, AllDiffer}
 
 pub all_left : {X : Type 0} (P : X → Type 0) (xs ys : List X) → AllByRecursion P (xs ++ ys) → AllByRecursion P xs
@@ -54,16 +55,16 @@ pub one_category : (cats : List Cat) (c d : ℕ) (word : List ℕ) → AllApart 
 one_category [] c d word apart one other = absurd one
 one_category (cat ∷ cats) zero zero word apart one other = refl
 one_category (cat ∷ cats) zero (suc d) word apart one other =
-    let found = found_category (AreApart cat.name) cats d word apart.0 other in absurd (found.1 word one found.2)
+    let found = found_category (AreApart cat.name) cats d word apart.0 other in absurd (found.1.nothing_common word one found.2)
 one_category (cat ∷ cats) (suc c) zero word apart one other =
-    let found = found_category (AreApart cat.name) cats c word apart.0 one in absurd (found.1 word other found.2)
+    let found = found_category (AreApart cat.name) cats c word apart.0 one in absurd (found.1.nothing_common word other found.2)
 one_category (cat ∷ cats) (suc c) (suc d) word apart one other = ap suc (one_category cats c d word apart.1 one other)
 
 not_first : (var : Option (List ℕ)) (cats : List Cat) (d : ℕ) (word : List ℕ) → AllApart (names_if var ++ variable_names cats)
     → MatchOption var ⊥ (λ name. IsSpelling name word) → Spells cats d word → ⊥
 not_first None cats d word apart one other = one
 not_first (Some name) cats d word apart one other =
-    let found = found_variable (AreApart name) cats d word apart.0 other in found.1 word one found.2
+    let found = found_variable (AreApart name) cats d word apart.0 other in found.1.nothing_common word one found.2
 
 -- a word spells the variable of one category at most
 pub one_variable : (cats : List Cat) (c d : ℕ) (word : List ℕ) → AllApart (variable_names cats) → Spells cats c word → Spells cats d word → c ≡ d
@@ -80,7 +81,7 @@ not_both cats c d word apart one other =
     let across = apart_across (category_names cats) (variable_names cats) apart in
     let category = found_category (λ (name : List ℕ). AllByRecursion (AreApart name) (variable_names cats)) cats c word across one in
     let variable = found_variable (AreApart category.0) cats d word category.1 other in
-    variable.1 word category.2 variable.2
+    variable.1.nothing_common word category.2 variable.2
 
 -- a word that is no spelling spells no category and no variable
 pub no_category : (cats : List Cat) (c : ℕ) (word : List ℕ) → IsNoSpelling (names cats) word → IsCategoryWord cats c word → ⊥
@@ -107,3 +108,63 @@ one_place (x ∷ texts) zero (suc m) text differ one other =
 one_place (x ∷ texts) (suc n) zero text differ one other =
     let same : Some text ≡ Some x = sym other in let is : text ≡ x = cc in absurd (differs_from x texts n differ.0 (one ∙ ap Some is))
 one_place (x ∷ texts) (suc n) (suc m) text differ one other = ap suc (one_place texts n m text differ.1 one other)
+
+-- ---- when two names have a common spelling
+
+-- one of two names with a common spelling is a spelling of the other
+pub common_spelling : (one other first second : List ℕ) → one ++ first ≡ other ++ second → AllByRecursion IsEnding first → AllByRecursion IsEnding second
+    → IsSpelling one other ⊎ IsSpelling other one
+common_spelling [] other first second same one_ends other_ends =
+    inl (other, refl, all_left IsEnding other second (subst (AllByRecursion IsEnding) same one_ends))
+common_spelling (c ∷ one) [] first second same one_ends other_ends =
+    inr (c ∷ one, refl, all_left IsEnding (c ∷ one) first (subst (AllByRecursion IsEnding) (sym same) other_ends))
+common_spelling (c ∷ one) (d ∷ other) first second same one_ends other_ends =
+    let head : c ≡ d = cc in
+    let left : one ++ first ≡ other ++ second = cc in
+    further c d one other head (common_spelling one other first second left one_ends other_ends)
+  where
+    further : (c d : ℕ) (one other : List ℕ) → c ≡ d → IsSpelling one other ⊎ IsSpelling other one → IsSpelling (c ∷ one) (d ∷ other) ⊎ IsSpelling (d ∷ other) (c ∷ one)
+    further c d one other head (inl h) = inl (h.0, (ap (λ x. x ∷ other) (sym head) ∙ ap (λ xs. c ∷ xs) h.1), h.2)
+    further c d one other head (inr h) = inr (h.0, (ap (λ x. x ∷ one) head ∙ ap (λ xs. d ∷ xs) h.1), h.2)
+
+-- two names are apart where neither is a spelling of the other
+pub apart_names : (one other : List ℕ) → (IsSpelling one other → ⊥) → (IsSpelling other one → ⊥) → AreApart one other
+apart_names one other not_one not_other = record {
+  nothing_common = λ word spells also. neither (common_spelling one other spells.0 also.0 (sym spells.1 ∙ also.1) spells.2 also.2)
+}
+  where
+    neither : IsSpelling one other ⊎ IsSpelling other one → ⊥
+    neither (inl h) = not_one h
+    neither (inr h) = not_other h
+
+itself : (name : List ℕ) → IsSpelling name name
+itself name = ([], sym (append-nil name), tt)
+
+pub spelling_is_not_apart : (one other : List ℕ) → AreApart one other → IsSpelling one other → ⊥
+spelling_is_not_apart one other apart spells = apart.nothing_common other spells (itself other)
+
+pub other_is_not_apart : (one other : List ℕ) → AreApart one other → IsSpelling other one → ⊥
+other_is_not_apart one other apart spells = apart.nothing_common one (itself one) spells
+
+-- whether a word that begins with a name is a spelling of it
+pub spelled_by_ending : (name word ending : List ℕ) (r : Bool) → word ≡ name ++ ending → (IsTrue r ↔ AllByRecursion IsEnding ending) → IsTrue r ↔ IsSpelling name word
+spelled_by_ending name word ending r is ends = (
+  λ t. (ending, is, ends.0 t),
+  λ spells. ends.1 (subst (AllByRecursion IsEnding) (append_cancel_left name spells.0 ending (sym spells.1 ∙ is)) spells.2),
+)
+
+pub spells_one : (cats : List Cat) (c : ℕ) (word : List ℕ) → IsCategoryWord cats c word → IsTrue false ↔ IsNoSpelling (category_names cats) word
+spells_one cats c word at = (
+  λ t. (let never : false ≡ true = t in cc),
+  λ none. (let found = found_category (λ (name : List ℕ). IsSpelling name word → ⊥) cats c word none at in absurd (found.1 found.2)),
+)
+
+pub not_apart : (one other : List ℕ) (p : Bool) → (IsTrue p ↔ IsSpelling one other) → IsTrue p → IsTrue false ↔ AreApart one other
+not_apart one other p is holds = ((λ t. (let never : false ≡ true = t in cc)), λ apart. absurd (spelling_is_not_apart one other apart (is.0 holds)))
+
+pub apart_by_two : (one other : List ℕ) (p q : Bool) → (IsTrue p ↔ IsSpelling one other) → (IsTrue q ↔ IsSpelling other one) → IsFalse p → IsTrue (not q) ↔ AreApart one other
+apart_by_two one other p true is also fails = ((λ t. (let never : false ≡ true = t in cc)), λ apart. absurd (other_is_not_apart one other apart (also.0 refl)))
+apart_by_two one other p false is also fails = (
+  λ t. apart_names one other (λ spells. (let never : false ≡ true = sym fails ∙ is.1 spells in cc)) (λ spells. (let never : false ≡ true = also.1 spells in cc)),
+  λ apart. refl,
+)

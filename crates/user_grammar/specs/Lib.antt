@@ -4,3 +4,4 @@ pub mod Production
 pub mod Grammar
 pub mod Bare
 pub mod Laws
+pub mod Made

@@ -28,8 +28,8 @@ abbrev pub IsNoSpelling : List (List ℕ) → List ℕ → Type 0
 IsNoSpelling names word = AllByRecursion (λ name. IsSpelling name word → ⊥) names
 
 -- two names have no common spelling
-abbrev pub AreApart : List ℕ → List ℕ → Type 0
-AreApart one other = (word : List ℕ) → IsSpelling one word → IsSpelling other word → ⊥
+pub record AreApart (one other : List ℕ) : Type 0 where
+  pub nothing_common : (word : List ℕ) → IsSpelling one word → IsSpelling other word → ⊥
 
 -- no two of the names have one
 abbrev pub AllApart : List (List ℕ) → Type 0

@@ -17,14 +17,10 @@ use Rattle.user_grammar.specs.Names.{category_names, names, IsCategoryWord, IsNo
 abbrev pub IsListed : List (List ℕ) → List ℕ → Type 0
 IsListed listed word = AnyByRecursion (λ text. text ≡ word) listed
 
--- a word that is a terminal: one that is listed or a numeral. A spelling is neither, where the names are as they should be.
-abbrev pub IsTerminalWord : List Cat → List (List ℕ) → List ℕ → Type 0
-IsTerminalWord cats listed word = (IsListed listed word ⊎ IsTrue (is_numeral word)) × IsNoSpelling (names cats) word
-
--- A token that is a terminal of a production. Parentheses are none, not even in quotes.
-pub record IsTerminal (cats : List Cat) (listed : List (List ℕ)) (token : PlainToken) : Type 0 where
+-- A token that may be a terminal of a production: of the words only the listed ones and numerals. Parentheses are none, not even in quotes.
+pub record IsTerminal (listed : List (List ℕ)) (token : PlainToken) : Type 0 where
   pub may_be : MayBeTerminal token.kind token.text
-  pub word : token.kind ≡ 0 → IsTerminalWord cats listed token.text
+  pub word : token.kind ≡ 0 → IsListed listed token.text ⊎ IsTrue (is_numeral token.text)
   pub not_open : token.text ≢ 40 ∷ []
   pub not_close : token.text ≢ 41 ∷ []
 
@@ -52,11 +48,12 @@ AreNumbers own [] [] = Unit {0}
 AreNumbers own (word ∷ words) (n ∷ ns) = (slice_get own n ≡ Some word) × AreNumbers own words ns
 AreNumbers own _ _ = ⊥
 
--- Tokens and the items for which they stand, and the words of these items that are binders. `own` are the words of all binders of the production.
+-- Tokens and the items for which they stand, and the words of these items that are binders. `own` are the words of all binders of the
+-- production. A word that is a spelling is no terminal; it is no numeral and not listed either, where the names are as they should be.
 pub data AreItems (cats : List Cat) (listed own : List (List ℕ)) : List PlainToken → List Item → (words : List (List ℕ)) → Type 0 where
   no_items : AreItems cats listed own [] [] []
   terminal : {token : PlainToken} {tokens : List PlainToken} {items : List Item} {words : List (List ℕ)} →
-      IsTerminal cats listed token → AreItems cats listed own tokens items words →
+      IsTerminal listed token → (token.kind ≡ 0 → IsNoSpelling (names cats) token.text) → AreItems cats listed own tokens items words →
       AreItems cats listed own (token ∷ tokens) (Word token.text (token.kind == 4) ∷ items) words
   binder : {token : PlainToken} {tokens : List PlainToken} {c : CatId} {items : List Item} {words : List (List ℕ)} →
       token.kind ≡ 0 → IsVariableWord (record { cats = cats; prods = [] }) c.0 token.text → AreItems cats listed own tokens items words →

@@ -2,5 +2,7 @@
 #![tactic(auto)]
 
 mod laws;
+mod names;
+mod spelling;
 
 pub use laws::signatures_are_unique;
