@@ -1,6 +1,6 @@
 -- What the portions of a file say of its grammar: the listed terminals, the written categories, and the names behind `assumes`.
 -- To be held against 'Outline' and 'Grammar' of docs/notation.md.
-use Rattle.std.specs.Prelude.{List, [], ◌∷◌, ◌++◌, ℕ, Option, None, Some, map}
+use Rattle.std.specs.Prelude.{List, [], ◌∷◌, ℕ, Option, None, Some, map, flat_map}
 use Rattle.sy_base.specs.Tokens.{PlainToken}
 use Rattle.outline_reader.specs.Plain.{PlainPortion, terminals, syntax_word, category, judgment_of, rule_of, theorem_of, step_of, inversion, case_rule, case_term, end_line}
 
@@ -9,16 +9,13 @@ pub record WrittenCategory : Type 0 where
   pub name : PlainToken
   pub forms : List (List PlainToken)
 
-abbrev pub text_of : PlainToken → List ℕ
-text_of token = token.text
-
 abbrev pub texts_if : Option PlainToken → List (List ℕ)
 texts_if None = []
 texts_if (Some token) = token.text ∷ []
 
 -- the terminals that a portion lists
 abbrev pub listed_in : PlainPortion → List (List ℕ)
-listed_in (terminals first tokens) = map text_of tokens
+listed_in (terminals first tokens) = map (λ token. token.text) tokens
 listed_in _ = []
 
 -- the category that a portion is
@@ -34,15 +31,12 @@ assumed_in _ = []
 
 -- the listed terminals of a file, in text order
 abbrev pub listed : List PlainPortion → List (List ℕ)
-listed [] = []
-listed (portion ∷ portions) = listed_in portion ++ listed portions
+listed portions = flat_map listed_in portions
 
 -- its categories, in text order
 abbrev pub categories : List PlainPortion → List WrittenCategory
-categories [] = []
-categories (portion ∷ portions) = category_in portion ++ categories portions
+categories portions = flat_map category_in portions
 
 -- the names behind `assumes`, of judgments and of theorems
 abbrev pub assumed : List PlainPortion → List (List ℕ)
-assumed [] = []
-assumed (portion ∷ portions) = assumed_in portion ++ assumed portions
+assumed portions = flat_map assumed_in portions

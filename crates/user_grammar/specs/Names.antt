@@ -1,5 +1,5 @@
 -- The names of a grammar and their spellings. To be held against the first point of 'Grammar' of docs/notation.md.
-use Rattle.std.specs.Prelude.{◌≡◌, ◌≢◌, ℕ, List, [], ◌∷◌, ◌++◌, map, Option, None, Some, slice_get, MatchOption}
+use Rattle.std.specs.Prelude.{◌≡◌, ◌≢◌, ℕ, List, [], ◌∷◌, ◌++◌, map, flat_map, Option, None, Some, slice_get, MatchOption}
 use Rattle.std.specs.List.{AllByRecursion}
 use Rattle.binding_terms.specs.declared.grammar.Cat.{Cat}
 use Rattle.rule_schemes.specs.Reading.{IsSpelling}
@@ -13,8 +13,7 @@ abbrev pub category_names : List Cat → List (List ℕ)
 category_names cats = map (λ cat. cat.name) cats
 
 abbrev pub variable_names : List Cat → List (List ℕ)
-variable_names [] = []
-variable_names (cat ∷ cats) = names_if cat.var ++ variable_names cats
+variable_names cats = flat_map (λ cat. names_if cat.var) cats
 
 abbrev pub names : List Cat → List (List ℕ)
 names cats = category_names cats ++ variable_names cats

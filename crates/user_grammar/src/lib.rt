@@ -3,6 +3,8 @@
 
 mod laws;
 mod names;
+mod portions;
 mod spelling;
+mod tokens;
 
 pub use laws::signatures_are_unique;

@@ -68,7 +68,7 @@ fn are_no_spellings(cats: &[Cat], texts: &[&[u8]]) -> bool
     true
 }
 
-fn is_same(text: &[u8], other: &[u8]) -> bool
+pub fn is_same(text: &[u8], other: &[u8]) -> bool
     ensures { IsTrue result ↔ (text.now ≡ other.now) }
 {
     text == other
