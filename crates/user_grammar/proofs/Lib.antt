@@ -2,3 +2,4 @@ pub mod Spellings
 pub mod OneWay
 pub mod OneReading
 pub mod OneSignature
+pub mod BareItems
