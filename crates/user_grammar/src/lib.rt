@@ -4,6 +4,7 @@
 mod laws;
 mod names;
 mod portions;
+mod productions;
 mod spelling;
 mod tokens;
 
