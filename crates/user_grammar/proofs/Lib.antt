@@ -3,3 +3,4 @@ pub mod OneWay
 pub mod OneReading
 pub mod OneSignature
 pub mod BareItems
+pub mod Making
