@@ -4,3 +4,4 @@ pub mod OneReading
 pub mod OneSignature
 pub mod BareItems
 pub mod Making
+pub mod BareGrammars

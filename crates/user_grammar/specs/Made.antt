@@ -10,8 +10,8 @@ use Rattle.binding_terms.specs.declared.grammar.Prod.{Prod}
 use Rattle.outline_reader.specs.Plain.{PlainPortion, plain_portion}
 use Rattle.outline_reader.specs.Views.{portion_view}
 use Rattle.outline_reader.specs.declared.parts.Portion.{Portion}
-use Rattle.user_grammar.specs.File.{WrittenCategory}
-use Rattle.user_grammar.specs.Names.{category_names, IsCategoryWord, IsNoSpelling}
+use Rattle.user_grammar.specs.File.{WrittenCategory, assumed, categories, listed}
+use Rattle.user_grammar.specs.Names.{category_names, HaveNoCommonSpelling, IsCategoryWord, IsNoSpelling}
 use Rattle.user_grammar.specs.Production.{IsTerminal}
 
 -- the portions with plain tokens
@@ -33,6 +33,12 @@ AreBareForms cats listed forms = AllByRecursion (AllByRecursion (IsBareItem cats
 
 abbrev pub AreBare : List Cat → List (List ℕ) → List WrittenCategory → Type 0
 AreBare cats listed written = AllByRecursion (λ w. AreBareForms cats listed w.forms) written
+
+-- what is tested of a file: nothing is assumed, no common spelling, and no token of a production but spellings of categories and terminals
+pub record IsBareGrammar (portions : List PlainPortion) (cats : List Cat) : Type 0 where
+  pub nothing_assumed : assumed portions ≡ []
+  pub names : HaveNoCommonSpelling (category_names cats) (listed portions)
+  pub items : AreBare cats (listed portions) (categories portions)
 
 -- the slot for a spelling of a category, or the terminal for another token
 abbrev pub IsMadeItem : List Cat → PlainToken → Item → Type 0
