@@ -5,3 +5,4 @@ pub mod OneSignature
 pub mod BareItems
 pub mod Making
 pub mod BareGrammars
+pub mod MadeGrammars
