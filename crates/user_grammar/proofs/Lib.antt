@@ -6,3 +6,4 @@ pub mod BareItems
 pub mod Making
 pub mod BareGrammars
 pub mod MadeGrammars
+pub mod Found

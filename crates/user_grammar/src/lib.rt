@@ -1,6 +1,7 @@
 //! The signature for which the grammar of a file stands.
 #![tactic(auto)]
 
+mod grammar;
 mod laws;
 mod names;
 mod portions;
@@ -8,4 +9,5 @@ mod productions;
 mod spelling;
 mod tokens;
 
+pub use grammar::signature;
 pub use laws::signatures_are_unique;
