@@ -1,14 +1,12 @@
 -- A file whose signature is bare has a bare grammar.
-use Rattle.std.proofs.Common.{◌≡◌, ◌↔◌, ◌⊎◌, ℕ, zero, suc, Bool, true, false, IsTrue, List, [], ◌∷◌, ◌++◌, map, Option, None, Some, inl, inr, refl, ap, ◌∙◌, sym, subst, slice_get}
+use Rattle.std.proofs.Common.{◌≡◌, ℕ, zero, suc, Bool, true, false, List, [], ◌∷◌, ◌++◌, map, Option, None, Some, inl, inr, refl, ap, ◌∙◌, sym, subst}
 use Rattle.std.proofs.lemmas.List.{append-nil}
 use Rattle.std.specs.Option.{MatchOption}
 use Rattle.std.specs.List.{AllByRecursion, AllZip}
 use Rattle.sy_base.specs.Tokens.{PlainToken}
 use Rattle.binding_terms.specs.Signature.{Signature}
 use Rattle.binding_terms.specs.declared.grammar.Cat.{Cat}
-use Rattle.binding_terms.specs.declared.grammar.CatId.{CatId}
 use Rattle.binding_terms.specs.declared.grammar.Item.{Item}
-use Rattle.binding_terms.specs.declared.grammar.Item.TheVariants.{Word, Slot, Binder}
 use Rattle.binding_terms.specs.declared.grammar.Prod.{Prod}
 use Rattle.outline_reader.specs.Plain.{PlainPortion}
 use Rattle.user_grammar.specs.File.{WrittenCategory, listed, categories, assumed}
@@ -128,8 +126,7 @@ bare_productions cats listed n [] [] prods none nones are clear = tt
 bare_productions cats listed n [] (v ∷ vars) prods none nones are clear = absurd are
 bare_productions cats listed n (w ∷ written) [] prods none nones are clear = absurd are
 bare_productions cats listed n (w ∷ written) (v ∷ vars) prods none nones are clear =
-    let split : AreClear cats (are.0 ++ are.1) = subst (AreClear cats) are.2 clear in
-    (
+    let split : AreClear cats (are.0 ++ are.1) = subst (AreClear cats) are.2 clear in (
       bare_forms none nones.0 are.3 (all_left (λ (prod : Prod). AllByRecursion (IsNotAmbiguous (category_names cats)) prod.items) are.0 are.1 split),
       bare_productions cats listed (suc n) written vars are.1 none nones.1 are.4 (all_right (λ (prod : Prod). AllByRecursion (IsNotAmbiguous (category_names cats)) prod.items) are.0 are.1 split),
     )

@@ -1,5 +1,5 @@
 -- The tokens that are read where no category has a variable.
-use Rattle.std.proofs.Common.{◌≡◌, ◌↔◌, ◌⊎◌, ℕ, Bool, IsTrue, List, inl, inr}
+use Rattle.std.proofs.Common.{◌≡◌, ◌↔◌, ℕ, Bool, IsTrue, List, inl, inr}
 use Rattle.sy_base.specs.Tokens.{PlainToken}
 use Rattle.binding_terms.specs.declared.grammar.Cat.{Cat}
 use Rattle.rule_schemes.specs.Reading.{IsSpelling}

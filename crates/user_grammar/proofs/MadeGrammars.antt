@@ -1,17 +1,15 @@
 -- What is made of a bare grammar is its signature.
-use Rattle.std.proofs.Common.{◌≡◌, ◌↔◌, ◌⊎◌, ℕ, suc, Bool, true, false, IsTrue, List, [], ◌∷◌, ◌++◌, map, Option, None, Some, inl, inr, refl, ap, ◌∙◌, sym, subst, ◌==◌}
+use Rattle.std.proofs.Common.{◌≡◌, ◌⊎◌, ℕ, suc, true, false, IsTrue, List, [], ◌∷◌, ◌++◌, map, None, inl, inr, refl, sym, subst}
 use Rattle.std.specs.List.{AllByRecursion, AllZip}
 use Rattle.sy_base.specs.Tokens.{PlainToken, is_numeral}
 use Rattle.binding_terms.specs.Signature.{Signature, slots}
 use Rattle.binding_terms.specs.declared.grammar.Cat.{Cat}
-use Rattle.binding_terms.specs.declared.grammar.CatId.{CatId}
 use Rattle.binding_terms.specs.declared.grammar.Item.{Item}
-use Rattle.binding_terms.specs.declared.grammar.Item.TheVariants.{Word, Slot, Binder}
 use Rattle.binding_terms.specs.declared.grammar.Prod.{Prod}
 use Rattle.outline_reader.specs.Plain.{PlainPortion}
 use Rattle.user_grammar.specs.File.{WrittenCategory, listed, categories, assumed}
 use Rattle.user_grammar.specs.Names.{names, category_names, IsNoSpelling, HaveNoCommonSpelling}
-use Rattle.user_grammar.specs.Production.{IsListed, IsTerminal, IsVariable, no_brackets, AreItems, no_items, terminal, slot, IsProduction}
+use Rattle.user_grammar.specs.Production.{IsListed, IsVariable, no_brackets, AreItems, no_items, terminal, slot}
 use Rattle.user_grammar.specs.Grammar.{IsAmong, IsCategory, AreForms, no_forms, production, AreProductions, IsWritten}
 use Rattle.user_grammar.specs.Bare.{IsNotAmbiguous, IsBareSignature}
 use Rattle.user_grammar.specs.Made.{bare_category, IsBareItem, AreBareForms, AreBare, IsBareGrammar, IsMadeItem, IsMadeProduction, AreMade}

@@ -1,15 +1,13 @@
 -- A form stands for one production, and the forms of a category for one variable and one list of productions.
-use Rattle.std.proofs.Common.{◌≡◌, ℕ, List, [], ◌∷◌, ◌++◌, Option, None, Some, IsTrue, refl, ap, ◌∙◌, sym, subst, inl, inr, ◌⊎◌, ◌==◌, arith}
-use Rattle.std.specs.List.{AllByRecursion}
+use Rattle.std.proofs.Common.{◌≡◌, ℕ, List, [], ◌∷◌, Option, refl, ap, ◌∙◌, sym, subst, inl, inr, ◌==◌, arith}
 use Rattle.sy_base.specs.Tokens.{PlainToken}
 use Rattle.binding_terms.specs.declared.grammar.Cat.{Cat}
-use Rattle.binding_terms.specs.declared.grammar.CatId.{CatId}
 use Rattle.binding_terms.specs.declared.grammar.Item.{Item}
 use Rattle.binding_terms.specs.declared.grammar.Item.TheVariants.{Word, Slot, Binder}
 use Rattle.binding_terms.specs.declared.grammar.Prod.{Prod}
 use Rattle.rule_schemes.specs.Reading.{MayBeTerminal}
 use Rattle.user_grammar.specs.Names.{names, category_names, variable_names, IsCategoryWord, IsNoSpelling, AllApart, AllDiffer}
-use Rattle.user_grammar.specs.Production.{IsMark, AreNumbers, IsTerminal, AreItems, no_items, terminal, binder, slot, IsProduction, IsVariable}
+use Rattle.user_grammar.specs.Production.{IsMark, AreNumbers, AreItems, no_items, terminal, binder, slot, IsProduction, IsVariable}
 use Rattle.user_grammar.specs.Grammar.{AreForms, no_forms, variable, production}
 use Rattle.user_grammar.proofs.Spellings.{Spells, one_category, one_variable, not_both, no_category, no_variable, apart_left, apart_right}
 use Rattle.user_grammar.proofs.OneWay.{NotOpened, one_way, one_list}

@@ -1,13 +1,13 @@
 -- A file stands for one signature.
-use Rattle.std.proofs.Common.{◌≡◌, ◌↔◌, ℕ, suc, Bool, true, false, List, [], ◌∷◌, ◌++◌, map, Option, refl, ap, ◌∙◌, sym, subst}
+use Rattle.std.proofs.Common.{◌≡◌, ℕ, suc, Bool, true, false, List, [], ◌∷◌, ◌++◌, map, Option, refl, ap, ◌∙◌, sym, subst}
 use Rattle.std.specs.List.{AllZip}
 use Rattle.binding_terms.specs.Signature.{Signature}
 use Rattle.binding_terms.specs.declared.grammar.Cat.{Cat}
 use Rattle.binding_terms.specs.declared.grammar.Prod.{Prod}
 use Rattle.outline_reader.specs.Plain.{PlainPortion}
 use Rattle.user_grammar.specs.File.{WrittenCategory, listed, categories, assumed}
-use Rattle.user_grammar.specs.Names.{category_names, variable_names, names, AllApart}
-use Rattle.user_grammar.specs.Grammar.{IsAmong, IsCategory, AreForms, AreProductions, IsWritten}
+use Rattle.user_grammar.specs.Names.{category_names, names, AllApart}
+use Rattle.user_grammar.specs.Grammar.{IsAmong, IsCategory, AreProductions, IsWritten}
 use Rattle.user_grammar.specs.Laws.{SignaturesAreUnique}
 use Rattle.user_grammar.proofs.OneReading.{one_list_of_productions, same_variable}
 
@@ -74,11 +74,11 @@ same_productions cats texts n (w ∷ written) (v ∷ vars) (u ∷ also) prods ag
 pub one_written : (portions : List PlainPortion) (sig other : Signature) → IsWritten portions sig → IsWritten portions other → sig ≡ other
 one_written portions sig other one two =
     let names : category_names sig.cats ≡ category_names other.cats =
-        written_names (assumed portions) (categories portions) sig.cats one.cats ∙ sym (written_names (assumed portions) (categories portions) other.cats two.cats) in
+    written_names (assumed portions) (categories portions) sig.cats one.cats ∙ sym (written_names (assumed portions) (categories portions) other.cats two.cats) in
     let vars = same_variables sig.cats other.cats (listed portions) 0 (categories portions) (map (λ cat. cat.var) sig.cats) (map (λ cat. cat.var) other.cats) sig.prods other.prods names one.prods two.prods in
     let cats = same_categories (assumed portions) (categories portions) sig.cats other.cats one.cats two.cats vars in
     let again : AreProductions sig.cats (listed portions) 0 (categories portions) (map (λ cat. cat.var) sig.cats) other.prods =
-        subst (λ cs. AreProductions cs (listed portions) 0 (categories portions) (map (λ cat. cat.var) cs) other.prods) (sym cats) two.prods in
+    subst (λ cs. AreProductions cs (listed portions) 0 (categories portions) (map (λ cat. cat.var) cs) other.prods) (sym cats) two.prods in
     let prods = same_productions sig.cats (listed portions) 0 (categories portions) (map (λ cat. cat.var) sig.cats) (map (λ cat. cat.var) sig.cats) sig.prods other.prods one.names.apart one.prods again in
     ap (λ (cs : List Cat). record { cats = cs; prods = sig.prods }) cats ∙ ap (λ (ps : List Prod). record { cats = other.cats; prods = ps }) prods
 

@@ -1,5 +1,5 @@
 -- Brackets are read in one way, where no bracket follows them.
-use Rattle.std.proofs.Common.{◌≡◌, ℕ, List, [], ◌∷◌, refl, ap, ◌∙◌, sym, subst, slice_get, Some}
+use Rattle.std.proofs.Common.{◌≡◌, ℕ, List, [], ◌∷◌, refl, ap, ◌∙◌, sym}
 use Rattle.sy_base.specs.Tokens.{PlainToken}
 use Rattle.user_grammar.specs.Names.{AllDiffer}
 use Rattle.user_grammar.specs.Production.{IsMark, AreBrackets, no_brackets, brackets, AreWords, one_more, last_one, AreNumbers}

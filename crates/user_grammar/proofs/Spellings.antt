@@ -1,9 +1,8 @@
 -- Names that have no common spelling, and the one name that a word spells.
-use Rattle.std.proofs.Common.{◌≡◌, ◌≢◌, ℕ, zero, suc, List, [], ◌∷◌, ◌++◌, map, Option, None, Some, refl, ap, ◌∙◌, sym, subst, inl, inr, ◌⊎◌, slice_get, ◌↔◌, Bool, true, false, not, IsTrue, IsFalse}
+use Rattle.std.proofs.Common.{◌≡◌, ◌≢◌, ℕ, zero, suc, List, [], ◌∷◌, ◌++◌, Option, None, Some, refl, ap, ◌∙◌, sym, subst, inl, inr, ◌⊎◌, slice_get, ◌↔◌, Bool, true, false, not, IsTrue, IsFalse}
 use Rattle.std.proofs.lemmas.List.{append-nil, append_cancel_left}
 use Rattle.std.specs.Option.{MatchOption}
 use Rattle.std.specs.List.{AllByRecursion}
-use Rattle.binding_terms.specs.Signature.{Signature}
 use Rattle.binding_terms.specs.declared.grammar.Cat.{Cat}
 use Rattle.rule_schemes.specs.Reading.{IsEnding, IsSpelling, IsVariableWord}
 use Rattle.user_grammar.specs.Names.{names_if, category_names, variable_names, names, IsCategoryWord, IsNoSpelling, AreApart, AllApart, AllDiffer}
@@ -130,7 +129,7 @@ common_spelling (c ∷ one) (d ∷ other) first second same one_ends other_ends 
 -- two names are apart where neither is a spelling of the other
 pub apart_names : (one other : List ℕ) → (IsSpelling one other → ⊥) → (IsSpelling other one → ⊥) → AreApart one other
 apart_names one other not_one not_other = record {
-  nothing_common = λ word spells also. neither (common_spelling one other spells.0 also.0 (sym spells.1 ∙ also.1) spells.2 also.2)
+  nothing_common = λ word spells also. neither (common_spelling one other spells.0 also.0 (sym spells.1 ∙ also.1) spells.2 also.2);
 }
   where
     neither : IsSpelling one other ⊎ IsSpelling other one → ⊥

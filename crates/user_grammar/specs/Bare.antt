@@ -3,7 +3,7 @@ use Rattle.std.specs.Prelude.{◌≡◌, ℕ, List, None}
 use Rattle.std.specs.List.{AllByRecursion}
 use Rattle.binding_terms.specs.Signature.{Signature}
 use Rattle.binding_terms.specs.declared.grammar.Item.{Item}
-use Rattle.binding_terms.specs.declared.grammar.Item.TheVariants.{Word, Slot, Binder}
+use Rattle.binding_terms.specs.declared.grammar.Item.TheVariants.{Word}
 use Rattle.rule_schemes.specs.Plain.{IsPlainSignature}
 use Rattle.user_grammar.specs.Names.{category_names, IsNoSpelling}
 

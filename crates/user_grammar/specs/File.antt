@@ -2,7 +2,7 @@
 -- To be held against 'Outline' and 'Grammar' of docs/notation.md.
 use Rattle.std.specs.Prelude.{List, [], ◌∷◌, ℕ, Option, None, Some, map, flat_map}
 use Rattle.sy_base.specs.Tokens.{PlainToken}
-use Rattle.outline_reader.specs.Plain.{PlainPortion, terminals, syntax_word, category, judgment_of, rule_of, theorem_of, step_of, inversion, case_rule, case_term, end_line}
+use Rattle.outline_reader.specs.Plain.{PlainPortion, terminals, category, judgment_of, theorem_of}
 
 -- a category as it is written: its name, and the form of each production
 pub record WrittenCategory : Type 0 where

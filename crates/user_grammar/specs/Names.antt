@@ -1,5 +1,5 @@
 -- The names of a grammar and their spellings. To be held against the first point of 'Grammar' of docs/notation.md.
-use Rattle.std.specs.Prelude.{◌≡◌, ◌≢◌, ℕ, List, [], ◌∷◌, ◌++◌, map, flat_map, Option, None, Some, slice_get, MatchOption}
+use Rattle.std.specs.Prelude.{◌≢◌, ℕ, List, [], ◌∷◌, ◌++◌, map, flat_map, Option, None, Some, slice_get, MatchOption}
 use Rattle.std.specs.List.{AllByRecursion}
 use Rattle.binding_terms.specs.declared.grammar.Cat.{Cat}
 use Rattle.rule_schemes.specs.Reading.{IsSpelling}

@@ -1,17 +1,15 @@
 -- The grammar of a production: for which items its tokens stand. To be held against 'Grammar' of docs/notation.md. A kind is 0 a word,
 -- 1 a symbol, 2 punctuation, 3 a bar, 4 quoted; of punctuation 40 and 41 are parentheses, 91 and 93 brackets, 44 is the comma.
 use Rattle.std.specs.Prelude.{◌≡◌, ◌≢◌, ◌⊎◌, ◌==◌, ℕ, IsTrue, List, [], ◌∷◌, Some, slice_get}
-use Rattle.std.specs.List.{AllByRecursion}
 use Rattle.sy_base.specs.Tokens.{PlainToken, is_numeral}
 use Rattle.binding_terms.specs.Numbered.{AnyByRecursion}
-use Rattle.binding_terms.specs.Signature.{Signature}
 use Rattle.binding_terms.specs.declared.grammar.Cat.{Cat}
 use Rattle.binding_terms.specs.declared.grammar.CatId.{CatId}
 use Rattle.binding_terms.specs.declared.grammar.Item.{Item}
 use Rattle.binding_terms.specs.declared.grammar.Item.TheVariants.{Word, Slot, Binder}
 use Rattle.binding_terms.specs.declared.grammar.Prod.{Prod}
 use Rattle.rule_schemes.specs.Reading.{IsVariableWord, MayBeTerminal}
-use Rattle.user_grammar.specs.Names.{category_names, names, IsCategoryWord, IsNoSpelling, AllDiffer}
+use Rattle.user_grammar.specs.Names.{names, IsCategoryWord, IsNoSpelling, AllDiffer}
 
 -- the word is listed as a terminal
 abbrev pub IsListed : List (List ℕ) → List ℕ → Type 0

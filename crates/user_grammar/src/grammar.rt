@@ -29,11 +29,7 @@ fn is_bare(portions: &[Portion<'_>], cats: &[Cat], listed: &[&[u8]]) -> bool
 }
 
 /// Whether that is so of the terminals that the portions list.
-fn is_bare_grammar(
-    alloc: Global,
-    portions: &[Portion<'_>],
-    cats: &[Cat],
-) -> Result<bool, NoMemory>
+fn is_bare_grammar(alloc: Global, portions: &[Portion<'_>], cats: &[Cat]) -> Result<bool, NoMemory>
     requires { length cats.now < 2 ^ 32 }
     ensures { IfOk result (λ bare. IsTrue bare ↔ IsBareGrammar (plains portions.now) cats.now) }
 {

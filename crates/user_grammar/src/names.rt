@@ -6,14 +6,14 @@ ghost use Rattle.user_grammar.specs.Names.{category_names, AllApart, AllDiffer, 
 use crate::spelling::{are_apart, is_spelling};
 use binding_terms::{Cat, CatId};
 
-/// The first category of which a word is a spelling, or none where it is a spelling of none.
+/// A category of which the word is a spelling, or none where it is a spelling of none.
 pub fn category_of(cats: &[Cat], word: &[u8]) -> Option<CatId>
     requires { length cats.now < 2 ^ 32 }
     ensures { MatchOption result (IsNoSpelling (category_names cats.now) word.now)
         (λ c. IsCategoryWord cats.now c.0 word.now) }
 {
-    for number in 0..cats.len() {
-        if is_spelling(cats[number].name.bytes(), word) {
+    for (number, cat) in cats.iter().enumerate() {
+        if is_spelling(cat.name.bytes(), word) {
             return Some(CatId(number as u32));
         }
     }

@@ -99,7 +99,7 @@ fn add_portion(
     requires { length cats.now < 2 ^ 32 }
     ensures { IfOk result (λ next. (own : List Prod) × (prods.new.items ≡ prods.old.items ++ own)
         × ((written : List WrittenCategory) (others : List Prod) → AreMade cats.now next written others
-            → AreMade cats.now number (category_in (plain_portion (portion_view portion.now)) ++ written) (own ++ others))) }
+        → AreMade cats.now number (category_in (plain_portion (portion_view portion.now)) ++ written) (own ++ others))) }
 {
     match portion {
         Portion::Category { productions, .. } => {

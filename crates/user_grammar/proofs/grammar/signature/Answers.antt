@@ -20,8 +20,8 @@ returns c =
     let cats = c.in_ok-cats.cats.items in
     let lent = c.as_slice-portions.ensures.value in
     let tested =
-        subst (λ ps. IsTrue c.in_ok-is_bare_grammar.field-0 ↔ IsBareGrammar (plains ps) cats) lent
-        (subst (λ cs. IsTrue c.in_ok-is_bare_grammar.field-0 ↔ IsBareGrammar (plains c.as_slice-portions.result.now) cs) c.as_slice.ensures.value c.in_ok-is_bare_grammar.ensures) in
+    subst (λ ps. IsTrue c.in_ok-is_bare_grammar.field-0 ↔ IsBareGrammar (plains ps) cats) lent
+    (subst (λ cs. IsTrue c.in_ok-is_bare_grammar.field-0 ↔ IsBareGrammar (plains c.as_slice-portions.result.now) cs) c.as_slice.ensures.value c.in_ok-is_bare_grammar.ensures) in
     told_signature (outlined c.args.outline.now) cats c.in_ok-prods.prods.items c.fitted.result
     (subst (λ ps. cats ≡ map bare_category (categories (plains ps))) lent c.in_ok-cats.ensures)
     (tested.0 c.if-not-branch.false)

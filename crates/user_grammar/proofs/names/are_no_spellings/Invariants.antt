@@ -1,4 +1,4 @@
-use Rattle.std.proofs.Common.{◌↔◌, ℕ, List, map, drop}
+use Rattle.std.proofs.Common.{◌↔◌, map, drop}
 use Rattle.std.specs.List.{AllByRecursion}
 use Rattle.user_grammar.specs.Names.{category_names, IsNoSpelling}
 use Rattle.user_grammar.proofs.names.are_no_spellings.Given as goal

@@ -1,5 +1,3 @@
-use Rattle.std.proofs.Common.{subst, sym}
-use Rattle.std.specs.List.{AllZip}
 use Rattle.proof_lexer.specs.View.{token_view}
 use Rattle.user_grammar.specs.Made.{IsMadeItem}
 use Rattle.user_grammar.proofs.Making.{zip_more}
