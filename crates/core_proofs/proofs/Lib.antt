@@ -1,5 +1,6 @@
 pub mod CitedForms
 pub mod ClosedForms
+pub mod FirstNamed
 pub mod FormScopes
 pub mod GoalFitting
 pub mod Keeping

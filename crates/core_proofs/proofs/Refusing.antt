@@ -63,8 +63,8 @@ last_of forms new form again number e same count =
     let whole : map judgment_scheme new ≡ map judgment_scheme forms ++ judgment_scheme form ∷ [] =
     ap (map judgment_scheme) e ∙ map-append judgment_scheme forms (again ∷ []) ∙ ap (λ j. map judgment_scheme forms ++ j ∷ []) same in (
       ap (λ js. slice_get js number) whole
-      ∙ ap (slice_get (map judgment_scheme forms ++ judgment_scheme form ∷ [])) (count ∙ sym (length-map forms judgment_scheme))
-      ∙ at_end (map judgment_scheme forms) (judgment_scheme form),
+          ∙ ap (slice_get (map judgment_scheme forms ++ judgment_scheme form ∷ [])) (count ∙ sym (length-map forms judgment_scheme))
+          ∙ at_end (map judgment_scheme forms) (judgment_scheme form),
       whole,
     )
   where
@@ -137,8 +137,8 @@ module _ (i : Inside) (is : IsProving (kept_of i) (standing i.inside i.ended (na
   refuse_end_goal line form st e said here other =
       refuse (end_theorem line) true e
       (λ to f. let same : f.form ≡ form = same_Some f.form form (sym f.last_is ∙ said) in
-          let one : f.st ≡ statement st = same_Some f.st (statement st) (sym f.here ∙ statement_at kept ended st here) in
-          other (subst (λ (t : Theorem). HasGoal (kept_theory kept) t scope form) one (subst (HasGoal (kept_theory kept) f.st scope) same f.goal)))
+      let one : f.st ≡ statement st = same_Some f.st (statement st) (sym f.here ∙ statement_at kept ended st here) in
+      other (subst (λ (t : Theorem). HasGoal (kept_theory kept) t scope form) one (subst (HasGoal (kept_theory kept) f.st scope) same f.goal)))
 
   pub ends_at : (line : ℕ) (form : JudgmentScheme) (st : Statement) → inside ≡ true → form_at forms last ≡ Some form → slice_get kept.statements ended ≡ Some st →
       HasGoal (kept_theory kept) (statement st) scope form → Follow inside (end_theorem line) (outside (ended + 1))

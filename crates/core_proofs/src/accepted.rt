@@ -1,11 +1,9 @@
 // Proofs of which every step is right, and all of whose theorems are ended.
-ghost use Rattle.std.specs.Prelude.{◌≡◌, [], ℕ, List, map, IfSome, IfNone};
+ghost use Rattle.std.specs.Prelude.{◌≡◌, ◌↔◌, [], map, IsTrue, IfSome, IfNone};
 ghost use Rattle.std.specs.List.{AllByRecursion};
-ghost use Rattle.rule_schemes.specs.View.{theory, statement};
-ghost use Rattle.rule_schemes.specs.Statement.{Theorem};
-ghost use Rattle.core_proofs.specs.Kept.{kept_theory, kept_statements, kept_steps, IsAccepted};
-ghost use Rattle.core_proofs.specs.Proof.{Proves};
-ghost use Rattle.core_proofs.specs.Provable.{IsProvable, IsFirstNamed};
+ghost use Rattle.rule_schemes.specs.View.{statement};
+ghost use Rattle.core_proofs.specs.Kept.{kept_statements, IsAccepted};
+ghost use Rattle.core_proofs.specs.Provable.{IsFirstNamed};
 
 use crate::step::CoreStep;
 use rule_schemes::{Statement, System, TheoremId};
@@ -38,6 +36,13 @@ impl Model for Accepted {
 
     ghost invariant = { λ a. IsAccepted (record { system = a.system; statements = a.statements.items; steps = a.steps.items })
         × (a.unproved.items ≡ []) };
+}
+
+/// Whether this is the name of the statement.
+fn is_named(of: &Statement, name: &str) -> bool
+    ensures { IsTrue result ↔ ((statement of.now).name ≡ name.now) }
+{
+    of.name.bytes() == name.as_bytes()
 }
 
 impl Accepted {
@@ -91,10 +96,8 @@ impl Accepted {
         ensures some { IfSome result (λ id. IsFirstNamed (kept_statements self.now) name.now id.0) }
         ensures none { IfNone result (AllByRecursion (λ st. st.name ≡ name.now → ⊥) (kept_statements self.now)) }
     {
-        let wanted = name.as_bytes();
         for i in 0..self.statements.len() {
-            let of = &self.statements[i];
-            if of.name.bytes() == wanted {
+            if is_named(&self.statements[i], name) {
                 return Some(TheoremId(i as u32));
             }
         }

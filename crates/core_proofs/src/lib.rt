@@ -17,4 +17,5 @@ pub use goal::has_goal;
 pub use laws::{makes_derives, rule_step_derives};
 pub use proving::Proving;
 pub use rule_step::is_rule_instance;
+pub use scoping::proof_scope;
 pub use step::{CoreStep, StepId};

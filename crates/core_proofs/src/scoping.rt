@@ -100,7 +100,7 @@ fn first_names(alloc: Global, decls: &[MetaDecl], count: usize) -> Result<Items<
 }
 
 /// The scope in which the proof of a statement begins: its names without those that stand in the conclusion alone.
-pub(crate) fn proof_scope(alloc: Global, of: &Statement) -> Result<Scope, NoMemory>
+pub fn proof_scope(alloc: Global, of: &Statement) -> Result<Scope, NoMemory>
     requires last { (scope : Names) × IsProofScope (statement of.now) scope }
     ensures { IfOk result (λ scope. IsProofScope (statement of.now) (names scope)) }
 {

@@ -13,5 +13,5 @@ returns-else-occurs_in_entries c =
     let entries = rw c.as_slice.ensures at c.occurs_in_entries.ensures in
     let args = rw c.as_slice-else-occurs_in_entries.ensures at c.occurs_in_any.ensures in (
       λ h. inr (args.0 h),
-      λ h. elim h [ | inl k ↦ absurd (true≢false (sym (entries.1 k) ∙ c.if-occurs_in_entries.false)) | inr k ↦ args.1 k ],
+      λ h. elim h [ inl k ↦ absurd (true≢false (sym (entries.1 k) ∙ c.if-occurs_in_entries.false)) | inr k ↦ args.1 k ],
     )
