@@ -7,7 +7,7 @@ use Rattle.scheme_terms.specs.Forms.{Names}
 use Rattle.rule_schemes.specs.View.{judgment_scheme}
 use Rattle.rule_schemes.specs.declared.rule.JScheme.{JScheme}
 use Rattle.core_proofs.specs.declared.step.StepId.{StepId}
-use Rattle.std.specs.List.{AllByRecursion, AllZip}
+use Rattle.std.specs.List.{AllByRecursion}
 use Rattle.pattern_unify.proofs.PlainSchemes.{all_at}
 use Rattle.rule_schemes.specs.Rules.{JudgmentScheme, Rule, Theory}
 use Rattle.core_proofs.specs.FormEquations.{put_first, cited_forms}

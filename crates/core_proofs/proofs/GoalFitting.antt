@@ -1,30 +1,29 @@
 -- A form has the goal exactly where a substitution fits the equations of the goal.
-use Rattle.std.proofs.Common.{drop, append_assoc, add-one, ◌≡◌, ◌↔◌, ◌⊎◌, ℕ, zero, suc, ◌+◌, ◌<◌, ◌≤◌, IsTrue, List, [], ◌∷◌, ◌++◌, length, map, Option, Some, None, is_some, slice_get, MatchOption, unwrap_or, inl, inr, refl, ap, ◌∙◌, sym, subst, arith}
+use Rattle.std.proofs.Common.{drop, append_assoc, add-one, ◌≡◌, ◌↔◌, ◌⊎◌, ℕ, zero, suc, ◌+◌, ◌<◌, IsTrue, List, [], ◌∷◌, ◌++◌, length, map, Option, Some, None, is_some, slice_get, MatchOption, unwrap_or, inl, inr, refl, ap, ◌∙◌, sym, subst, arith}
 use Rattle.std.proofs.lemmas.Bool.{cases_lt}
 use Rattle.std.proofs.lemmas.Option.{slice_get_within, get_or_from_slice_get}
 use Rattle.std.proofs.lemmas.List.{drop_more, map-append}
 use Rattle.std.specs.List.{AllByRecursion}
 use Rattle.binding_terms.specs.Numbered.{AnyByRecursion, AllNumbered}
-use Rattle.binding_terms.specs.Signature.{Signature}
 use Rattle.binding_terms.proofs.Frames.{append_within}
 use Rattle.scheme_terms.specs.SchemeTree.{SchemeTree, meta, local, no_values, values, StrictIn}
 use Rattle.scheme_terms.specs.Forms.{Names, Substitution}
 use Rattle.scheme_terms.specs.SchemeScope.{IsScheme, AreValues}
-use Rattle.scheme_terms.specs.Substituting.{applied, scheme_for, parameters, IsSubstitution}
+use Rattle.scheme_terms.specs.Substituting.{applied, parameters}
 use Rattle.scheme_terms.specs.declared.scheme.MetaDecl.{MetaDecl}
 use Rattle.scheme_terms.proofs.Options.{match_some, match_from}
 use Rattle.pattern_unify.specs.Equations.{SchemeEquation, equation}
-use Rattle.pattern_unify.specs.Plain.{NothingBinds, HaveNoParameters}
+use Rattle.pattern_unify.specs.Plain.{HaveNoParameters}
 use Rattle.pattern_unify.specs.Fit.{Becomes}
 use Rattle.pattern_unify.specs.FitInto.{AreSidesInto, AreToFitInto, IsFitInto, IsOnlyFitInto, AreWithoutBindingInto}
 use Rattle.pattern_unify.proofs.PlainSchemes.{all_at}
 use Rattle.pattern_unify.proofs.Places.{numbered, numbered_at, within as place_within}
 use Rattle.pattern_unify.specs.declared.equation.Equation.{Equation}
 use Rattle.pattern_unify.proofs.Solving.{applied_meta}
-use Rattle.rule_schemes.specs.Rules.{JudgmentScheme, Theory, IsJudgmentScheme, StrictInJudgment}
+use Rattle.rule_schemes.specs.Rules.{JudgmentScheme, Theory, IsJudgmentScheme}
 use Rattle.rule_schemes.specs.Plain.{IsPlainSystem}
 use Rattle.rule_schemes.specs.Statement.{Theorem, IsOfInputs, IsOfOutputs, IsStatementForm, StrictInStatement}
-use Rattle.core_proofs.specs.FormEquations.{all_equations, both, stays, stays_from, goal_equations}
+use Rattle.core_proofs.specs.FormEquations.{all_equations, stays, stays_from, goal_equations}
 use Rattle.core_proofs.specs.RuleStep.{form_in}
 use Rattle.core_proofs.specs.Plain.{IsPlainScope, IsPlainForm}
 use Rattle.core_proofs.specs.Proof.{IsProofScope, HasGoal, applied_judgment, itself}

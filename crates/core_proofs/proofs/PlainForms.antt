@@ -1,5 +1,5 @@
 -- Over a system without contexts each form of a judgment has none, and its rules are plain.
-use Rattle.std.proofs.Common.{arith, ◌≤◌, ◌≡◌, ◌↔◌, ◌⊎◌, ℕ, zero, suc, ◌<◌, List, [], ◌∷◌, ◌++◌, length, map, Option, Some, None, slice_get, MatchOption, inl, inr, refl, ap, ◌∙◌, sym, subst, true≢false}
+use Rattle.std.proofs.Common.{arith, ◌≤◌, ◌≡◌, ℕ, zero, suc, ◌<◌, List, [], ◌∷◌, ◌++◌, length, map, Option, Some, None, slice_get, MatchOption, inl, inr, refl, ap, ◌∙◌, sym, subst, true≢false}
 use Rattle.std.specs.Prelude.{true, false, count_by, ◌==◌}
 use Rattle.std.proofs.lemmas.Option.{slice_get_within}
 use Rattle.std.specs.List.{AllByRecursion}
@@ -16,13 +16,12 @@ use Rattle.scheme_terms.specs.declared.scheme.MetaDecl.{MetaDecl}
 use Rattle.scheme_terms.specs.declared.scheme.Root.{Root}
 use Rattle.scheme_terms.specs.declared.scheme.Root.TheVariants.{Closed, Empty, Whole}
 use Rattle.scheme_terms.proofs.Options.{match_some, match_from}
-use Rattle.pattern_unify.specs.Plain.{HaveNoParameters}
 use Rattle.pattern_unify.proofs.PlainSchemes.{all_at}
 use Rattle.rule_schemes.specs.declared.rule.Judgment.{Judgment}
 use Rattle.rule_schemes.specs.Rules.{JudgmentScheme, Rule, Theory, JudgmentFits, RuleFits, IsRootOf, IsJudgmentScheme, MayStand, ENTRIES, argument_slots, rule_names}
 use Rattle.rule_schemes.specs.Plain.{IsPlainSignature, IsPlainSystem, HasPlainNames}
 use Rattle.rule_schemes.specs.Statement.{OccursInJudgment}
-use Rattle.core_proofs.specs.Plain.{IsPlainScope, IsPlainForm, IsPlainRule}
+use Rattle.core_proofs.specs.Plain.{IsPlainForm, IsPlainRule}
 use Rattle.core_proofs.specs.Proof.{IsStepForm}
 
 no_context : (cats : List Cat) (c : ℕ) → AllByRecursion (λ cat. cat.context ≡ false) cats

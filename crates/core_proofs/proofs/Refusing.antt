@@ -1,10 +1,8 @@
 -- What the object that keeps proofs knows of where it stands: which steps it refuses, and what stays true with one step more.
-use Rattle.std.proofs.Common.{◌≡◌, ◌≢◌, ℕ, suc, ◌+◌, ◌<◌, ◌≤◌, Bool, true, false, true≢false, List, [], ◌∷◌, ◌++◌, length, map, Option, Some, None, slice_get, MatchOption, refl, ap, ◌∙◌, sym, subst, add-one, arith}
+use Rattle.std.proofs.Common.{◌≡◌, ℕ, ◌+◌, Bool, true, false, List, [], ◌∷◌, ◌++◌, length, map, Option, Some, None, slice_get, MatchOption, refl, ap, ◌∙◌, sym, subst, add-one}
 use Rattle.std.proofs.lemmas.List.{map-append, length-map}
-use Rattle.std.proofs.lemmas.Option.{slice_get-map, slice_get_within, same_Some}
-use Rattle.std.specs.Option.{option_copied}
+use Rattle.std.proofs.lemmas.Option.{slice_get-map, same_Some}
 use Rattle.std.specs.Prelude.{option_map}
-use Rattle.std.specs.List.{AllByRecursion}
 use Rattle.scheme_terms.specs.Forms.{Names}
 use Rattle.scheme_terms.specs.View.{names}
 use Rattle.scheme_terms.proofs.Options.{match_some}
@@ -26,7 +24,7 @@ use Rattle.core_proofs.specs.View.{step}
 use Rattle.core_proofs.specs.Proof.{IsProofScope, HasGoal, Standing, outside, within, Leads, Proves, given_judgments}
 use Rattle.core_proofs.specs.Provable.{IsProvable, IsPlainProof, StandsPlainly, IsRightByRule}
 use Rattle.core_proofs.specs.Kept.{Kept, kept_theory, kept_statements, kept_steps, form_at, standing, IsProving, IsAccepted}
-use Rattle.core_proofs.proofs.Moving.{Begins, Ends, Applies, Follows, leads_more, no_more, one_end}
+use Rattle.core_proofs.proofs.Moving.{Follows, leads_more, no_more, one_end}
 use Rattle.core_proofs.proofs.Keeping.{all_keep}
 
 -- no step of this kind is right where the steps so far stand

@@ -1,24 +1,23 @@
 -- A step is an instance of its rule exactly where a substitution fits the equations of its forms.
-use Rattle.std.proofs.Common.{◌≡◌, ◌↔◌, ◌⊎◌, ◌==◌, ◌&&◌, nat_eq, ℕ, suc, ◌+◌, Bool, true, false, IsTrue, if◌then◌else◌, List, [], ◌∷◌, ◌++◌, length, map, Option, Some, None, is_some, slice_get, MatchOption, option_map, unwrap_or, inl, inr, refl, ap, ◌∙◌, sym, subst, arith}
+use Rattle.std.proofs.Common.{◌≡◌, ◌↔◌, ◌⊎◌, ◌==◌, ◌&&◌, ℕ, suc, Bool, true, false, IsTrue, if◌then◌else◌, List, [], ◌∷◌, length, map, Option, Some, None, is_some, slice_get, MatchOption, option_map, unwrap_or, inl, inr, refl, ap, ◌∙◌, sym, subst, arith}
 use Rattle.std.proofs.lemmas.Bool.Decides.{nat_tests}
 use Rattle.std.proofs.lemmas.List.{length-map}
 use Rattle.std.specs.List.{AllByRecursion}
 use Rattle.binding_terms.specs.Numbered.{AnyByRecursion, AllNumbered}
 use Rattle.binding_terms.specs.Signature.{Signature, Place, slots}
 use Rattle.scheme_terms.specs.SchemeTree.{SchemeTree, StrictIn}
-use Rattle.scheme_terms.specs.Forms.{SchemeContext, SchemeEntry, Names, Substitution}
-use Rattle.scheme_terms.specs.SchemeScope.{IsScheme, AreSchemes, IsSchemeContext, AreExplicitEntries, entry_variables}
+use Rattle.scheme_terms.specs.Forms.{SchemeContext, Names, Substitution}
+use Rattle.scheme_terms.specs.SchemeScope.{AreSchemes, IsSchemeContext, AreExplicitEntries, entry_variables}
 use Rattle.scheme_terms.specs.Substituting.{applied, IsSubstitution}
 use Rattle.scheme_terms.specs.declared.scheme.MetaDecl.{MetaDecl}
-use Rattle.scheme_terms.specs.declared.scheme.Root.TheVariants.{Closed}
 use Rattle.scheme_terms.proofs.Options.{match_some}
 use Rattle.pattern_unify.specs.Equations.{SchemeEquation}
 use Rattle.pattern_unify.specs.Plain.{NothingBinds}
 use Rattle.pattern_unify.specs.Fit.{Becomes}
 use Rattle.pattern_unify.specs.FitInto.{AreSidesInto, AreToFitInto, IsFitInto, IsOnlyFitInto, AreWithoutBindingInto}
 use Rattle.pattern_unify.proofs.Solving.{all_append, any_append}
-use Rattle.rule_schemes.specs.Rules.{JudgmentScheme, Rule, Theory, IsRootOf, IsOneEntry, IsJudgmentScheme, StrictInEntries, StrictInJudgment, StrictInRule, argument_slots, rule_names}
-use Rattle.core_proofs.specs.FormEquations.{equated, paired, form_equations, both, all_equations}
+use Rattle.rule_schemes.specs.Rules.{JudgmentScheme, Rule, Theory, IsRootOf, IsOneEntry, StrictInEntries, StrictInJudgment, StrictInRule, argument_slots, rule_names}
+use Rattle.core_proofs.specs.FormEquations.{paired, form_equations, both, all_equations}
 use Rattle.core_proofs.specs.RuleStep.{form_in, IsRaisedTo, IsRuleInstance}
 use Rattle.core_proofs.specs.Plain.{IsPlainScope, IsPlainForm, IsPlainRule}
 use Rattle.core_proofs.proofs.ClosedForms.{closed_form, is_closed_form}

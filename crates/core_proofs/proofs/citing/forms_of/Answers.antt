@@ -1,4 +1,4 @@
-use Rattle.std.proofs.Common.{◌≡◌, map, None, Some, ap, sym, ◌∙◌}
+use Rattle.std.proofs.Common.{map, ap, sym, ◌∙◌}
 use Rattle.std.specs.Option.{option_copied}
 use Rattle.rule_schemes.specs.View.{judgment_scheme}
 use Rattle.core_proofs.proofs.CitedForms.{cited_none, cited_more}

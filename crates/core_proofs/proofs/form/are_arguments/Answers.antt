@@ -1,4 +1,3 @@
-use Rattle.std.proofs.Common.{◌≡◌}
 use Rattle.std.proofs.lemmas.List.{drop_all}
 use Rattle.scheme_terms.specs.View.{names}
 use Rattle.core_proofs.proofs.FormScopes.{arguments_end}

@@ -1,4 +1,3 @@
-use Rattle.std.proofs.Common.{◌≡◌}
 use Rattle.core_proofs.proofs.GoalFitting.{stays_more}
 use Rattle.core_proofs.proofs.goal.add_names.Goals as goal
 

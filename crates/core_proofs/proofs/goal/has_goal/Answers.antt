@@ -1,5 +1,5 @@
-use Rattle.std.proofs.Common.{◌≡◌, ◌↔◌, IsTrue, Some, None, is_some, map, option_map, ap, ◌∙◌, sym, subst}
-use Rattle.scheme_terms.specs.View.{names, substitution}
+use Rattle.std.proofs.Common.{map, option_map, ap, ◌∙◌, sym}
+use Rattle.scheme_terms.specs.View.{substitution}
 use Rattle.pattern_unify.specs.Equations.{equation}
 use Rattle.core_proofs.proofs.RuleFitting.{mapped_some}
 use Rattle.core_proofs.proofs.GoalFitting.{none_has, decided, are_to_fit, nothing_bound}

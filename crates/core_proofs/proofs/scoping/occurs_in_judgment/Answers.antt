@@ -1,6 +1,4 @@
-use Rattle.std.proofs.Common.{true, refl, inl, inr, true≢false, sym, ◌∙◌}
-use Rattle.std.specs.Prelude.{IsTrue}
-use Rattle.rule_schemes.specs.Statement.{OccursInJudgment}
+use Rattle.std.proofs.Common.{inl, inr, true≢false, sym, ◌∙◌}
 use Rattle.core_proofs.proofs.scoping.occurs_in_judgment.Goals as goal
 
 pub returns-then-occurs_in_entries : goal.returns-then-occurs_in_entries

@@ -1,4 +1,4 @@
-use Rattle.std.proofs.Common.{◌≡◌, map, take, ap, ◌∙◌, refl}
+use Rattle.std.proofs.Common.{map, take, ap, ◌∙◌, refl}
 use Rattle.scheme_terms.specs.View.{names, known_variable}
 use Rattle.rule_schemes.specs.View.{statement}
 use Rattle.core_proofs.proofs.Keeping.{counted_scope}

@@ -1,4 +1,4 @@
-use Rattle.std.proofs.Common.{◌≡◌, ◌≢◌, ℕ, ◌<◌, map, slice_get}
+use Rattle.std.proofs.Common.{◌≢◌, ℕ, ◌<◌, map, slice_get}
 use Rattle.std.specs.Prelude.{MatchOption}
 use Rattle.rule_schemes.specs.View.{statement}
 use Rattle.core_proofs.proofs.accepted.Accepted.theorem.Given as goal

@@ -1,13 +1,12 @@
-use Rattle.std.proofs.Common.{◌≡◌, ◌++◌, ◌∷◌, [], length, map, Some, None, ap, sym, subst, ◌∙◌, arith}
+use Rattle.std.proofs.Common.{◌≡◌, ◌++◌, ◌∷◌, [], length, map, ap, sym, subst, ◌∙◌, arith}
 use Rattle.std.specs.Prelude.{vec_len}
 use Rattle.std.specs.List.{AllByRecursion}
 use Rattle.scheme_terms.specs.View.{names}
 use Rattle.rule_schemes.specs.View.{theory, judgment_scheme}
-use Rattle.core_proofs.specs.Kept.{Kept, standing, IsProving}
+use Rattle.core_proofs.specs.Kept.{Kept}
 use Rattle.core_proofs.specs.Plain.{IsPlainForm}
 use Rattle.core_proofs.specs.Step.{by_rule}
-use Rattle.core_proofs.specs.declared.step.CoreStep.TheVariants.{Rule}
-use Rattle.core_proofs.proofs.Refusing.{IsRefused, kept_of, refuse_rule_outside, refuse_rule, applied, plain_here}
+use Rattle.core_proofs.proofs.Refusing.{IsRefused, refuse_rule_outside, refuse_rule, applied, plain_here}
 use Rattle.core_proofs.proofs.proving.Proving.add_rule_step.Goals as goal
 
 pub returns-then-not-self-clause-refused : goal.returns-then-not-self-clause-refused

@@ -1,9 +1,9 @@
-use Rattle.std.proofs.Common.{◌≡◌, ◌++◌, ◌∷◌, [], map, Some, None, slice_get, ap, sym, subst, ◌∙◌}
+use Rattle.std.proofs.Common.{◌≡◌, map, Some, None, slice_get, ap, sym, subst, ◌∙◌}
 use Rattle.std.specs.Option.{option_copied}
 use Rattle.scheme_terms.specs.View.{names}
-use Rattle.rule_schemes.specs.View.{judgment_scheme, statement, statement_input}
-use Rattle.core_proofs.specs.Kept.{Kept, standing, IsProving}
-use Rattle.core_proofs.specs.Proof.{Standing, within, given_judgments}
+use Rattle.rule_schemes.specs.View.{judgment_scheme, statement_input}
+use Rattle.core_proofs.specs.Kept.{Kept, IsProving}
+use Rattle.core_proofs.specs.Proof.{within, given_judgments}
 use Rattle.core_proofs.specs.Step.{begin_theorem}
 use Rattle.core_proofs.specs.declared.step.CoreStep.TheVariants.{Begin}
 use Rattle.core_proofs.proofs.Refusing.{IsRefused, kept_of, refuse_begin_inside, refuse_begin_other, refuse_begin_past, begins_at, proceeds, provable_at}

@@ -1,11 +1,9 @@
-use Rattle.std.proofs.Common.{◌≡◌, ◌<◌, ◌+◌, ◌++◌, ◌∷◌, [], length, map, Fits, w64, Some, None, slice_get, ap, sym, subst, ◌∙◌, true≢false, arith}
-use Rattle.std.specs.Prelude.{option_map, vec_len}
+use Rattle.std.proofs.Common.{◌≡◌, ◌+◌, map, Some, None, slice_get, ap, sym, subst, ◌∙◌, true≢false, arith}
+use Rattle.std.specs.Prelude.{option_map}
 use Rattle.std.specs.Option.{option_copied}
 use Rattle.std.proofs.lemmas.Option.{slice_get_within}
-use Rattle.scheme_terms.specs.View.{names}
-use Rattle.rule_schemes.specs.View.{judgment_scheme, statement}
+use Rattle.rule_schemes.specs.View.{judgment_scheme}
 use Rattle.core_proofs.specs.Kept.{Kept, form_at}
-use Rattle.core_proofs.specs.Plain.{IsPlainForm}
 use Rattle.core_proofs.specs.Proof.{outside}
 use Rattle.core_proofs.specs.Step.{end_theorem}
 use Rattle.core_proofs.specs.declared.step.CoreStep.TheVariants.{End}

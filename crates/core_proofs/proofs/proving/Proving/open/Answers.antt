@@ -1,5 +1,4 @@
-use Rattle.std.proofs.Common.{◌≡◌, ◌<◌, ◌^◌, length, map, ap, sym, subst, arith}
-use Rattle.std.specs.Prelude.{vec_len}
+use Rattle.std.proofs.Common.{map, sym, subst, arith}
 use Rattle.rule_schemes.specs.View.{theory, statement}
 use Rattle.core_proofs.specs.View.{step}
 use Rattle.core_proofs.specs.Proof.{outside, Leads, no_step}
