@@ -5,3 +5,6 @@ pub mod OrderLemmas
 pub mod CompletionLemmas
 pub mod AnswerLemmas
 pub mod OutlineLemmas
+pub mod FieldLemmas
+pub mod PortionLemmas
+pub mod UniqueLemmas
