@@ -1,0 +1,11 @@
+//! Tests that cross the crates: worked texts, from their bytes on.
+#![tactic(auto)]
+
+#[cfg(test)]
+mod outlines;
+#[cfg(test)]
+mod shown;
+#[cfg(test)]
+mod texts;
+#[cfg(test)]
+mod theories;
