@@ -4,8 +4,14 @@
 #[cfg(test)]
 mod outlines;
 #[cfg(test)]
+mod readings;
+#[cfg(test)]
+mod rows;
+#[cfg(test)]
 mod shown;
 #[cfg(test)]
 mod texts;
 #[cfg(test)]
 mod theories;
+#[cfg(test)]
+mod tokens;
