@@ -8,6 +8,8 @@ mod readings;
 #[cfg(test)]
 mod rows;
 #[cfg(test)]
+mod schemes;
+#[cfg(test)]
 mod shown;
 #[cfg(test)]
 mod texts;
