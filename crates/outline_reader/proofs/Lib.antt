@@ -8,3 +8,5 @@ pub mod OutlineLemmas
 pub mod FieldLemmas
 pub mod PortionLemmas
 pub mod UniqueLemmas
+pub mod WritingLemmas
+pub mod FilledLemmas
