@@ -1,7 +1,15 @@
 -- What holds of all outlines.
 use Rattle.std.specs.Prelude.{◌≡◌, ℕ, List}
+use Rattle.proof_lexer.specs.declared.token.Token.{Token}
+use Rattle.outline_reader.specs.declared.symbols.Role.{Role}
+use Rattle.outline_reader.specs.Outline.{IsOutlined}
+use Rattle.outline_reader.specs.Filled.{AreFilled}
 use Rattle.outline_reader.specs.Plain.{PlainPortion, HasPortions}
 
 -- a source has portions in one way at most
 abbrev pub PortionsAreUnique : Type 0
 PortionsAreUnique = (source : List ℕ) (portions others : List PlainPortion) → HasPortions source portions → HasPortions source others → portions ≡ others
+
+-- no portion of an outline lacks a token for one of its fields
+abbrev pub PortionsAreFilled : Type 0
+PortionsAreFilled = (tokens : List Token) (roles : List Role) → IsOutlined tokens roles → AreFilled roles

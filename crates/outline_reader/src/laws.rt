@@ -1,0 +1,12 @@
+// The laws of outlines.
+ghost use Rattle.outline_reader.specs.Laws.{PortionsAreUnique, PortionsAreFilled};
+
+/// A source has portions in one way at most, as plain tokens.
+pub fn portions_are_unique()
+    ensures { PortionsAreUnique }
+{}
+
+/// No portion of an outline lacks a token for one of its fields.
+pub fn portions_are_filled()
+    ensures { PortionsAreFilled }
+{}
