@@ -17,9 +17,10 @@ use Rattle.outline_reader.specs.Machine.{take}
 use Rattle.outline_reader.specs.Reading.{Answer, read, roles, with_roles, first_fault}
 use Rattle.outline_reader.specs.Portions.{portions}
 use Rattle.outline_reader.specs.Plain.{plain_portion}
-use Rattle.outline_reader.specs.Laws.{PortionsAreUnique}
+use Rattle.outline_reader.specs.Laws.{PortionsAreUnique, TokensAreOutlined}
 use Rattle.outline_reader.proofs.ReadingLemmas.{seen_as}
 use Rattle.outline_reader.proofs.AnswerLemmas.{answer_is_read}
+use Rattle.outline_reader.proofs.OutlineLemmas as one_outline
 use Rattle.outline_reader.proofs.FieldLemmas.{placeless, all_placeless}
 use Rattle.outline_reader.proofs.PortionLemmas.{plain_portions}
 
@@ -76,6 +77,20 @@ roles_placeless tokens = read_placeless 0 whole nothing_counted None tokens
 
 ok_one : (x y : List Role) → (let a : Answer = Ok x in a) ≡ Ok y → x ≡ y
 ok_one x y e = cc
+
+-- tokens with equal views have the same roles
+same_roles : (tokens others : List Token) → map token_view tokens ≡ map token_view others → roles tokens ≡ roles others
+same_roles tokens others same_views =
+    let same : all_placeless tokens ≡ all_placeless others =
+    all_placeless_of_view tokens ∙ ap (map of_view) same_views ∙ sym (all_placeless_of_view others) in
+    sym (roles_placeless tokens) ∙ ap roles same ∙ roles_placeless others
+
+pub tokens_outlined : TokensAreOutlined
+tokens_outlined source ones tokens has are =
+    let same_views : map token_view has.tokens ≡ map token_view tokens = tokens_unique source _ _ has.are_tokens are in
+    let told : roles has.tokens ≡ Ok has.outline.0 = answer_is_read has.tokens (Ok has.outline.0) has.outline.1 in
+    let pieces = portions has.outline.0 tokens in
+    (pieces, (one_outline.outlined tokens has.outline.0 pieces (sym (same_roles has.tokens tokens same_views) ∙ told) refl).0)
 
 pub portions_unique : PortionsAreUnique
 portions_unique source ones others first second =
