@@ -1,24 +1,23 @@
 -- The file of the typed lambda calculus stands for its signature.
-use Rattle.std.proofs.Common.{◌≡◌, ◌≢◌, ◌↔◌, ◌⊎◌, ◌==◌, slice_index_or, take, drop, ◌&&◌, ℕ, Bool, true, false, IsTrue, List, [], ◌∷◌, ◌++◌, length, map, Option, None, Some, inl, inr, refl, ap, ◌∙◌, sym, subst, arith}
+use Rattle.std.proofs.Common.{◌≡◌, ◌≢◌, ◌⊎◌, ◌==◌, slice_index_or, take, drop, ◌&&◌, ℕ, Bool, true, false, IsTrue, List, [], ◌∷◌, ◌++◌, None, Some, inl, inr, refl, ap, ◌∙◌, sym, subst, arith}
 use Rattle.std.specs.Prelude.{codes, not, ◌||◌}
 use Rattle.std.proofs.lemmas.List.{append-nil}
 use Rattle.std.specs.Str.{chars}
 use Rattle.unicode_ident.specs.Ident.{is_xid_start}
-use Rattle.std.specs.List.{AllByRecursion, AllZip}
+use Rattle.std.specs.List.{AllZip}
 use Rattle.unicode_ident.proofs.IdentLemmas.{is_xid_start-ascii}
 use Rattle.sy_base.specs.Tokens.{PlainToken, is_numeral}
 use Rattle.binding_terms.specs.declared.grammar.Cat.{Cat}
 use Rattle.binding_terms.specs.declared.grammar.Item.{Item}
 use Rattle.binding_terms.specs.declared.grammar.Item.TheVariants.{Word, Slot, Binder}
-use Rattle.binding_terms.specs.declared.grammar.Prod.{Prod}
 use Rattle.rule_schemes.specs.Reading.{IsSpelling}
 use Rattle.rule_schemes.specs.Sums.{cat}
 use Rattle.rule_schemes.specs.Lambda.{lambda}
 use Rattle.user_grammar.specs.File.{listed, categories, assumed}
-use Rattle.user_grammar.specs.Names.{category_names, names, IsNoSpelling, AreApart, HaveNoCommonSpelling}
-use Rattle.user_grammar.specs.Production.{IsListed, IsTerminal, IsVariable, no_brackets, brackets, last_one, AreItems, no_items, terminal, binder, slot, IsProduction}
+use Rattle.user_grammar.specs.Names.{IsAmong, category_names, names, IsNoSpelling, AreApart, HaveNoCommonSpelling}
+use Rattle.user_grammar.specs.Production.{IsTerminal, IsVariable, no_brackets, brackets, last_one, AreItems, no_items, terminal, binder, slot, IsProduction}
 use Rattle.user_grammar.specs.Grammar.{IsCategory, AreForms, no_forms, variable, production, IsWritten}
-use Rattle.user_grammar.specs.Lambda.{token, word, symbol, mark, function, longer_context, lambda_file}
+use Rattle.user_grammar.specs.Lambda.{word, symbol, mark, function, longer_context, lambda_file}
 use Rattle.user_grammar.proofs.Spellings.{apart_names}
 
 -- ---- spellings
@@ -90,13 +89,13 @@ no_common_spelling = record {
     ((apart (codes "t") (codes "Gamma") refl refl, (apart (codes "t") (codes "x") refl refl, tt)), ((apart (codes "Gamma") (codes "x") refl refl, tt), (tt, tt))),
   );
   no_spellings =
-    (no_spelling (codes "fn") refl refl refl refl, (no_spelling (codes "unit") refl refl refl refl, (no_spelling (codes "value") refl refl refl refl, tt)));
+      (no_spelling (codes "fn") refl refl refl refl, (no_spelling (codes "unit") refl refl refl refl, (no_spelling (codes "value") refl refl refl refl, tt)));
   different = ((unlike (codes "fn") (codes "unit") refl, (unlike (codes "fn") (codes "value") refl, tt)), ((unlike (codes "unit") (codes "value") refl, tt), (tt, tt)));
 }
 
 -- ---- items
 
-known : (text : List ℕ) → IsListed texts text → starts (40 ∷ []) text ≡ false → starts (41 ∷ []) text ≡ false → IsTerminal texts (word text)
+known : (text : List ℕ) → IsAmong texts text → starts (40 ∷ []) text ≡ false → starts (41 ∷ []) text ≡ false → IsTerminal texts (word text)
 known text is first second = record {
   may_be = inl refl;
   word = λ kind. inl is;
@@ -149,7 +148,7 @@ symbol_item text bar first second rest = terminal (sign text bar first second) (
 
 -- ---- the forms of the categories
 
-unit_is_listed : IsListed texts (codes "unit")
+unit_is_listed : IsAmong texts (codes "unit")
 unit_is_listed = inr (inl refl)
 
 no_unit_variable : IsVariable (category_names cats) texts (word (codes "unit") ∷ []) → ⊥
@@ -164,10 +163,10 @@ fn_items : AreItems cats texts (codes "x" ∷ []) function (slice_index_or lambd
 fn_items =
     terminal (known (codes "fn") (inl refl) refl refl) (λ kind. no_spelling (codes "fn") refl refl refl refl)
     (x_binder
-      (symbol_item (codes ":") refl refl refl
-        (T_slot
-          (symbol_item (codes "=>") refl refl refl
-            (slot {c = cat 1} {bound = codes "x" ∷ []} {binds = 0 ∷ []} refl ([], refl, tt) (brackets (refl, refl) (last_one refl (refl, refl) no_brackets)) (refl, tt) no_items)))))
+    (symbol_item (codes ":") refl refl refl
+    (T_slot
+    (symbol_item (codes "=>") refl refl refl
+    (slot {c = cat 1} {bound = codes "x" ∷ []} {binds = 0 ∷ []} refl ([], refl, tt) (brackets (refl, refl) (last_one refl (refl, refl) no_brackets)) (refl, tt) no_items)))))
 
 x_is_variable : IsVariable (category_names cats) texts (word (codes "x") ∷ [])
 x_is_variable = (
@@ -177,7 +176,7 @@ x_is_variable = (
   (unspelled (codes "T") (codes "x") refl, (unspelled (codes "t") (codes "x") refl, (unspelled (codes "Gamma") (codes "x") refl, tt))),
 )
   where
-    not_listed : IsListed texts (codes "x") → ⊥
+    not_listed : IsAmong texts (codes "x") → ⊥
     not_listed (inl same) = unlike (codes "fn") (codes "x") refl same
     not_listed (inr (inl same)) = unlike (codes "unit") (codes "x") refl same
     not_listed (inr (inr (inl same))) = unlike (codes "value") (codes "x") refl same
@@ -187,7 +186,7 @@ t_forms : AreForms cats texts 1 (Some (codes "x")) (function ∷ (word (codes "t
 t_forms =
     production (λ is. is) (record { words = codes "x" ∷ []; cat = refl; items = fn_items; different = (tt, tt) })
     (production (λ is. is) (record { words = []; cat = refl; items = t_slot (t_slot no_items); different = tt })
-      (variable x_is_variable (production no_unit_variable (unit_production 1) no_forms)))
+    (variable x_is_variable (production no_unit_variable (unit_production 1) no_forms)))
 
 star_is_no_variable : IsVariable (category_names cats) texts (symbol (codes "*") ∷ []) → ⊥
 star_is_no_variable is = absurd (let never : ⊥ = omega (arith, is.0) in never)
@@ -207,7 +206,11 @@ lambda_is_written = record {
   cats = are_categories;
   assumed = (inr (inr (inl refl)), tt);
   names = no_common_spelling;
-  prods =
-    (take 2 lambda.prods, drop 2 lambda.prods, refl, T_forms,
-      (take 3 (drop 2 lambda.prods), drop 5 lambda.prods, refl, t_forms, (drop 5 lambda.prods, [], refl, Gamma_forms, refl)));
+  prods = (
+    take 2 lambda.prods,
+    drop 2 lambda.prods,
+    refl,
+    T_forms,
+    (take 3 (drop 2 lambda.prods), drop 5 lambda.prods, refl, t_forms, (drop 5 lambda.prods, [], refl, Gamma_forms, refl)),
+  );
 }
