@@ -10,9 +10,9 @@ use Rattle.binding_terms.specs.declared.grammar.Item.{Item}
 use Rattle.binding_terms.specs.declared.grammar.Prod.{Prod}
 use Rattle.outline_reader.specs.Plain.{PlainPortion}
 use Rattle.user_grammar.specs.File.{WrittenCategory, listed, categories, assumed}
-use Rattle.user_grammar.specs.Names.{names, category_names, variable_names, HaveNoCommonSpelling}
+use Rattle.user_grammar.specs.Names.{IsAmong, names, category_names, variable_names, HaveNoCommonSpelling}
 use Rattle.user_grammar.specs.Production.{AreBrackets, no_brackets, brackets, AreWords, one_more, last_one, AreNumbers, AreItems, no_items, terminal, binder, slot, IsProduction}
-use Rattle.user_grammar.specs.Grammar.{IsAmong, IsCategory, AreForms, no_forms, variable, production, AreProductions, IsWritten}
+use Rattle.user_grammar.specs.Grammar.{IsCategory, AreForms, no_forms, variable, production, AreProductions, IsWritten}
 use Rattle.user_grammar.specs.Bare.{IsNotAmbiguous, IsBareSignature}
 use Rattle.user_grammar.specs.Made.{bare_category, IsBareItem, AreBareForms, AreBare, IsBareGrammar}
 use Rattle.user_grammar.proofs.Spellings.{Spells, all_left, all_right}

@@ -7,3 +7,4 @@ pub mod Making
 pub mod BareGrammars
 pub mod MadeGrammars
 pub mod Found
+pub mod LambdaFile

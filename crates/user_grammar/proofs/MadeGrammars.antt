@@ -8,9 +8,9 @@ use Rattle.binding_terms.specs.declared.grammar.Item.{Item}
 use Rattle.binding_terms.specs.declared.grammar.Prod.{Prod}
 use Rattle.outline_reader.specs.Plain.{PlainPortion}
 use Rattle.user_grammar.specs.File.{WrittenCategory, listed, categories, assumed}
-use Rattle.user_grammar.specs.Names.{names, category_names, IsNoSpelling, HaveNoCommonSpelling}
-use Rattle.user_grammar.specs.Production.{IsListed, IsVariable, no_brackets, AreItems, no_items, terminal, slot}
-use Rattle.user_grammar.specs.Grammar.{IsAmong, IsCategory, AreForms, no_forms, production, AreProductions, IsWritten}
+use Rattle.user_grammar.specs.Names.{IsAmong, names, category_names, IsNoSpelling, HaveNoCommonSpelling}
+use Rattle.user_grammar.specs.Production.{IsVariable, no_brackets, AreItems, no_items, terminal, slot}
+use Rattle.user_grammar.specs.Grammar.{IsCategory, AreForms, no_forms, production, AreProductions, IsWritten}
 use Rattle.user_grammar.specs.Bare.{IsNotAmbiguous, IsBareSignature}
 use Rattle.user_grammar.specs.Made.{bare_category, IsBareItem, AreBareForms, AreBare, IsBareGrammar, IsMadeItem, IsMadeProduction, AreMade}
 use Rattle.user_grammar.proofs.BareItems.{not_found}
@@ -65,7 +65,7 @@ no_variable_form cats texts [] bare is = is
 no_variable_form cats texts (token ∷ other ∷ form) bare is = is
 no_variable_form cats texts (token ∷ []) bare is = by_case bare.0
   where
-    neither : IsListed texts token.text ⊎ IsTrue (is_numeral token.text) → ⊥
+    neither : IsAmong texts token.text ⊎ IsTrue (is_numeral token.text) → ⊥
     neither (inl h) = is.2 h
     neither (inr h) = is.1 h
 

@@ -6,8 +6,8 @@ use Rattle.binding_terms.specs.declared.grammar.Cat.{Cat}
 use Rattle.binding_terms.specs.declared.grammar.Prod.{Prod}
 use Rattle.outline_reader.specs.Plain.{PlainPortion}
 use Rattle.user_grammar.specs.File.{WrittenCategory, listed, categories, assumed}
-use Rattle.user_grammar.specs.Names.{category_names, names, AllApart}
-use Rattle.user_grammar.specs.Grammar.{IsAmong, IsCategory, AreProductions, IsWritten}
+use Rattle.user_grammar.specs.Names.{IsAmong, category_names, names, AllApart}
+use Rattle.user_grammar.specs.Grammar.{IsCategory, AreProductions, IsWritten}
 use Rattle.user_grammar.specs.Laws.{SignaturesAreUnique}
 use Rattle.user_grammar.proofs.OneReading.{one_list_of_productions, same_variable}
 

@@ -2,18 +2,13 @@
 use Rattle.std.specs.Prelude.{◌≡◌, ◌↔◌, ℕ, suc, true, List, [], ◌∷◌, ◌++◌, map, Option, None, Some}
 use Rattle.std.specs.List.{AllByRecursion, AllZip}
 use Rattle.sy_base.specs.Tokens.{PlainToken}
-use Rattle.binding_terms.specs.Numbered.{AnyByRecursion}
 use Rattle.binding_terms.specs.Signature.{Signature, Fits}
 use Rattle.binding_terms.specs.declared.grammar.Cat.{Cat}
 use Rattle.binding_terms.specs.declared.grammar.Prod.{Prod}
 use Rattle.outline_reader.specs.Plain.{PlainPortion}
 use Rattle.user_grammar.specs.File.{WrittenCategory, listed, categories, assumed}
-use Rattle.user_grammar.specs.Names.{category_names, names, HaveNoCommonSpelling}
+use Rattle.user_grammar.specs.Names.{IsAmong, category_names, names, HaveNoCommonSpelling}
 use Rattle.user_grammar.specs.Production.{IsProduction, IsVariable}
-
--- a name stands among these
-abbrev pub IsAmong : List (List ℕ) → List ℕ → Type 0
-IsAmong texts name = AnyByRecursion (λ text. text ≡ name) texts
 
 -- the category has the written name, and is one of contexts exactly where it is assumed
 pub record IsCategory (assumed : List (List ℕ)) (written : WrittenCategory) (cat : Cat) : Type 0 where

@@ -5,3 +5,4 @@ pub mod Grammar
 pub mod Bare
 pub mod Laws
 pub mod Made
+pub mod Lambda

@@ -1,6 +1,7 @@
 -- The names of a grammar and their spellings. To be held against the first point of 'Grammar' of docs/notation.md.
-use Rattle.std.specs.Prelude.{◌≢◌, ℕ, List, [], ◌∷◌, ◌++◌, map, flat_map, Option, None, Some, slice_get, MatchOption}
+use Rattle.std.specs.Prelude.{◌≡◌, ◌≢◌, ℕ, List, [], ◌∷◌, ◌++◌, map, flat_map, Option, None, Some, slice_get, MatchOption}
 use Rattle.std.specs.List.{AllByRecursion}
+use Rattle.binding_terms.specs.Numbered.{AnyByRecursion}
 use Rattle.binding_terms.specs.declared.grammar.Cat.{Cat}
 use Rattle.rule_schemes.specs.Reading.{IsSpelling}
 
@@ -17,6 +18,10 @@ variable_names cats = flat_map (λ cat. names_if cat.var) cats
 
 abbrev pub names : List Cat → List (List ℕ)
 names cats = category_names cats ++ variable_names cats
+
+-- the text is one of these
+abbrev pub IsAmong : List (List ℕ) → List ℕ → Type 0
+IsAmong texts text = AnyByRecursion (λ one. one ≡ text) texts
 
 -- the word is a spelling of the category with this number
 abbrev pub IsCategoryWord : List Cat → ℕ → List ℕ → Type 0

@@ -2,23 +2,19 @@
 -- 1 a symbol, 2 punctuation, 3 a bar, 4 quoted; of punctuation 40 and 41 are parentheses, 91 and 93 brackets, 44 is the comma.
 use Rattle.std.specs.Prelude.{◌≡◌, ◌≢◌, ◌⊎◌, ◌==◌, ℕ, IsTrue, List, [], ◌∷◌, Some, slice_get}
 use Rattle.sy_base.specs.Tokens.{PlainToken, is_numeral}
-use Rattle.binding_terms.specs.Numbered.{AnyByRecursion}
 use Rattle.binding_terms.specs.declared.grammar.Cat.{Cat}
 use Rattle.binding_terms.specs.declared.grammar.CatId.{CatId}
 use Rattle.binding_terms.specs.declared.grammar.Item.{Item}
 use Rattle.binding_terms.specs.declared.grammar.Item.TheVariants.{Word, Slot, Binder}
 use Rattle.binding_terms.specs.declared.grammar.Prod.{Prod}
 use Rattle.rule_schemes.specs.Reading.{IsVariableWord, MayBeTerminal}
-use Rattle.user_grammar.specs.Names.{names, IsCategoryWord, IsNoSpelling, AllDiffer}
+use Rattle.user_grammar.specs.Names.{IsAmong, names, IsCategoryWord, IsNoSpelling, AllDiffer}
 
--- the word is listed as a terminal
-abbrev pub IsListed : List (List ℕ) → List ℕ → Type 0
-IsListed listed word = AnyByRecursion (λ text. text ≡ word) listed
-
--- A token that may be a terminal of a production: of the words only the listed ones and numerals. Parentheses are none, not even in quotes.
+-- A token that may be a terminal of a production: of the words only the listed ones and numerals. Parentheses are none, not even in
+-- quotes. Of reserved words nothing is said, since none stands in a production outside quotes.
 pub record IsTerminal (listed : List (List ℕ)) (token : PlainToken) : Type 0 where
   pub may_be : MayBeTerminal token.kind token.text
-  pub word : token.kind ≡ 0 → IsListed listed token.text ⊎ IsTrue (is_numeral token.text)
+  pub word : token.kind ≡ 0 → IsAmong listed token.text ⊎ IsTrue (is_numeral token.text)
   pub not_open : token.text ≢ 40 ∷ []
   pub not_close : token.text ≢ 41 ∷ []
 
@@ -70,5 +66,5 @@ pub record IsProduction (cats : List Cat) (listed : List (List ℕ)) (c : ℕ) (
 -- a word alone that is no terminal and no category: it is a variable
 abbrev pub IsVariable : (categories listed : List (List ℕ)) → List PlainToken → Type 0
 IsVariable categories listed (token ∷ []) =
-    (token.kind ≡ 0) × (IsTrue (is_numeral token.text) → ⊥) × (IsListed listed token.text → ⊥) × IsNoSpelling categories token.text
+    (token.kind ≡ 0) × (IsTrue (is_numeral token.text) → ⊥) × (IsAmong listed token.text → ⊥) × IsNoSpelling categories token.text
 IsVariable categories listed _ = ⊥

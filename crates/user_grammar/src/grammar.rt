@@ -49,7 +49,8 @@ fn fitted(alloc: Global, cats: Vec<Cat>, prods: Vec<Prod>) -> Result<Option<Sig>
     Ok(Some(Sig::make(alloc, cats, prods)?))
 }
 
-/// The signature for which the outline stands, or none where its grammar has a fault or is not built yet.
+/// The signature for which the outline stands by 'Grammar' of docs/notation.md. None where its grammar has a fault, and where its signature
+/// has variables, contexts or binders, or a terminal that is spelled as a category: that is not built yet.
 pub fn signature(alloc: Global, outline: &Outline<'_>) -> Result<Option<Sig>, NoMemory>
     ensures { IfOk result (λ found. MatchOption found
         ((sig : Signature) → IsSignatureOf (outlined outline.now) sig → IsBareSignature sig → ⊥)

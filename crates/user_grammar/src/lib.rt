@@ -8,6 +8,8 @@ mod portions;
 mod productions;
 mod spelling;
 mod tokens;
+mod worked;
 
 pub use grammar::signature;
 pub use laws::signatures_are_unique;
+pub use worked::lambda_stands_for_its_signature;

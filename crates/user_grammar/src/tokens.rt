@@ -4,8 +4,9 @@ ghost use Rattle.std.specs.List.{AllByRecursion};
 ghost use Rattle.sy_base.specs.Tokens.{is_numeral};
 ghost use Rattle.proof_lexer.specs.View.{kind_number, token_view};
 ghost use Rattle.rule_schemes.specs.Reading.{MayBeTerminal};
+ghost use Rattle.user_grammar.specs.Names.{IsAmong};
 ghost use Rattle.user_grammar.specs.Made.{IsBareItem};
-ghost use Rattle.user_grammar.specs.Production.{IsListed, IsTerminal};
+ghost use Rattle.user_grammar.specs.Production.{IsTerminal};
 
 use crate::names::{category_of, is_same};
 use binding_terms::Cat;
@@ -36,7 +37,7 @@ fn may_be_terminal(kind: Kind, text: &[u8]) -> bool
 }
 
 fn is_listed(listed: &[&[u8]], word: &[u8]) -> bool
-    ensures { IsTrue result ↔ IsListed (map (λ text. text.now) listed.now) word.now }
+    ensures { IsTrue result ↔ IsAmong (map (λ text. text.now) listed.now) word.now }
 {
     for text in listed {
         if is_same(text, word) {
@@ -49,7 +50,7 @@ fn is_listed(listed: &[&[u8]], word: &[u8]) -> bool
 /// Whether a word may be a terminal, and any other token.
 fn is_known(listed: &[&[u8]], token: &Token<'_>) -> bool
     ensures { IsTrue result ↔ (kind_number token.now.kind ≡ 0
-        → IsListed (map (λ text. text.now) listed.now) token.now.text.now ⊎ IsTrue (is_numeral token.now.text.now)) }
+        → IsAmong (map (λ text. text.now) listed.now) token.now.text.now ⊎ IsTrue (is_numeral token.now.text.now)) }
 {
     match token.kind {
         Kind::Word => is_listed(listed, token.text.as_bytes()) || is_numeral(token.text),
