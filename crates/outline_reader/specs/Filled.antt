@@ -112,11 +112,11 @@ needs role.Exchange = a_name ∷ []
 needs role.Substitution = a_name ∷ a_second_name ∷ []
 needs _ = []
 
--- the tokens of the portion that come first, before the next portion begins
+-- the roles up to the next portion
 abbrev pub within_portion : List Role → List Role
 within_portion roles = take (portion_length roles) roles
 
--- each token of the roles is followed, in its portion, by what it needs
+-- each token has behind it, in its portion, what it needs; where a later category is defined, the token before the `::=` begins its portion
 abbrev pub AreFilled : List Role → Type 0
 AreFilled [] = Unit {0}
 AreFilled (first ∷ roles) =

@@ -4,6 +4,7 @@ use Rattle.proof_lexer.specs.declared.token.Token.{Token}
 use Rattle.outline_reader.specs.declared.symbols.Role.{Role}
 use Rattle.outline_reader.specs.Outline.{IsOutlined}
 use Rattle.outline_reader.specs.Filled.{AreFilled}
+use Rattle.outline_reader.specs.Found.{AreFound}
 use Rattle.outline_reader.specs.Plain.{PlainPortion, HasPortions}
 
 -- a source has portions in one way at most
@@ -13,3 +14,7 @@ PortionsAreUnique = (source : List ℕ) (portions others : List PlainPortion) �
 -- no portion of an outline lacks a token for one of its fields
 abbrev pub PortionsAreFilled : Type 0
 PortionsAreFilled = (tokens : List Token) (roles : List Role) → IsOutlined tokens roles → AreFilled roles
+
+-- no field of a portion is its first token for want of another
+abbrev pub FieldsAreFound : Type 0
+FieldsAreFound = (tokens : List Token) (roles : List Role) → IsOutlined tokens roles → AreFound roles tokens

@@ -1,5 +1,5 @@
 // The laws of outlines.
-ghost use Rattle.outline_reader.specs.Laws.{PortionsAreUnique, PortionsAreFilled};
+ghost use Rattle.outline_reader.specs.Laws.{PortionsAreUnique, PortionsAreFilled, FieldsAreFound};
 
 /// A source has portions in one way at most, as plain tokens.
 pub fn portions_are_unique()
@@ -9,4 +9,10 @@ pub fn portions_are_unique()
 /// No portion of an outline lacks a token for one of its fields.
 pub fn portions_are_filled()
     ensures { PortionsAreFilled }
+{}
+
+/// No field of a portion is its first token for want of another: with another token in its place, the portion is the same but
+/// for that token.
+pub fn fields_are_found()
+    ensures { FieldsAreFound }
 {}
