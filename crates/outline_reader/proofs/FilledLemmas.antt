@@ -1,9 +1,6 @@
 -- No portion of an outline lacks a token for one of its fields.
-use Rattle.std.proofs.Common.{◌≡◌, ◌≢◌, ◌⊎◌, inl, inr, ℕ, ◌+◌, Bool, true, false, not, cond, if◌then◌else◌, ◌||◌, ◌&&◌, IsTrue, List, [], ◌∷◌, ◌++◌, map, take, refl, sym, ◌∙◌, ap, subst, add-one}
+use Rattle.std.proofs.Common.{◌≡◌, ◌⊎◌, inl, inr, ◌+◌, Bool, true, false, not, cond, if◌then◌else◌, ◌||◌, ◌&&◌, IsTrue, List, [], ◌∷◌, ◌++◌, take, refl, sym, ◌∙◌, ap, subst, add-one}
 use Rattle.std.specs.List.{AllByRecursion}
-use Rattle.proof_lexer.specs.declared.token.Token.{Token}
-use Rattle.outline_reader.specs.declared.symbols.Place.{Place}
-use Rattle.outline_reader.specs.declared.symbols.Class.{Class}
 use Rattle.outline_reader.specs.declared.symbols.Role.{Role}
 use Rattle.outline_reader.specs.declared.symbols.Role.TheVariants as role
 use Rattle.outline_reader.specs.declared.symbols.Phrase.{Phrase}
@@ -17,9 +14,9 @@ use Rattle.outline_reader.specs.Derives as d
 use Rattle.outline_reader.specs.Derives.{IsOneOf, whole}
 use Rattle.outline_reader.specs.Machine.{is_once}
 use Rattle.outline_reader.specs.Portions.{begins, names_category, portion_length}
-use Rattle.outline_reader.specs.Filled.{Need, a_name, a_second_name, a_kind_word, a_form, an_output, an_argument, a_conclusion, a_justification, an_ending, a_definition, a_new_definition, is_new_definition, meets, met_in, needs, within_portion, AreFilled}
+use Rattle.outline_reader.specs.Filled.{Need, a_name, a_kind_word, a_form, an_output, an_argument, a_conclusion, a_justification, a_definition, a_new_definition, is_new_definition, meets, met_in, needs, within_portion, AreFilled}
 use Rattle.outline_reader.specs.Laws.{PortionsAreFilled}
-use Rattle.outline_reader.proofs.WritingLemmas.{then_come, Writes, nothing, one_token, begun, none, symbols, writes}
+use Rattle.outline_reader.proofs.WritingLemmas.{then_come, Writes, nothing, one_token, begun, none, writes}
 
 -- ---- truth
 
@@ -348,8 +345,7 @@ unfolding quiet_ok
 quiet_begun phrase chosen is_one h =
     let test : Alternative → Bool = λ a. not (begins a.2) && (every quiet_symbol (then_come phrase a.3) && every calm (then_come phrase a.3)) in
     let all = every_one test is_one (where_true (quiet phrase) (every test (alternatives phrase)) (quiet_table phrase) h) in
-    let later = and_right (not (begins chosen.2)) (every quiet_symbol (then_come phrase chosen.3) && every calm (then_come phrase chosen.3)) all in
-    (
+    let later = and_right (not (begins chosen.2)) (every quiet_symbol (then_come phrase chosen.3) && every calm (then_come phrase chosen.3)) all in (
       not_true (begins chosen.2) (and_left (not (begins chosen.2)) (every quiet_symbol (then_come phrase chosen.3) && every calm (then_come phrase chosen.3)) all),
       and_left (every quiet_symbol (then_come phrase chosen.3)) (every calm (then_come phrase chosen.3)) later,
       and_right (every quiet_symbol (then_come phrase chosen.3)) (every calm (then_come phrase chosen.3)) later,
@@ -367,8 +363,7 @@ sure_begun phrase need chosen is_one h =
     let test : Alternative → Bool = λ a. not (begins a.2) && (every calm (then_come phrase a.3) && (meets need a.2 || promised need (then_come phrase a.3))) in
     let all = every_one test is_one (and_right (is_once (times_of phrase)) (every test (alternatives phrase)) (sure_parts phrase need h)) in
     let found = meets need chosen.2 || promised need (then_come phrase chosen.3) in
-    let later = and_right (not (begins chosen.2)) (every calm (then_come phrase chosen.3) && found) all in
-    (
+    let later = and_right (not (begins chosen.2)) (every calm (then_come phrase chosen.3) && found) all in (
       not_true (begins chosen.2) (and_left (not (begins chosen.2)) (every calm (then_come phrase chosen.3) && found) all),
       and_left (every calm (then_come phrase chosen.3)) found later,
       and_right (every calm (then_come phrase chosen.3)) found later,
@@ -430,7 +425,7 @@ defined (begun phrase rest chosen roles is_one w) still named =
     let next = then_come phrase chosen.3 in
     let is_new = sym (names_first chosen.2 roles) ∙ named in
     let stays = where_true (is_new_definition chosen.2) (every calm next)
-        (every_one (λ a. if is_new_definition a.2 then every calm (then_come phrase a.3) else true) is_one (new_table phrase)) is_new in
+    (every_one (λ a. if is_new_definition a.2 then every calm (then_come phrase a.3) else true) is_one (new_table phrase)) is_new in
     comes_more a_new_definition chosen.2 roles (new_begins_none chosen.2 is_new) (calm_first w (every_append calm next rest stays still)) (inl is_new)
 defined (none phrase rest roles optional w) still named = defined w (tail_of_calm rest still) named
 
@@ -450,19 +445,17 @@ filled : {all : List Symbol} {roles : List Role} → Writes all roles → tail_c
 unfolding tail_calm are_met
 filled nothing still met = tt
 filled (one_token place class role rest roles w) still met =
-    let after = tail_of_calm rest still in
-    (
+    let after = tail_of_calm rest still in (
       every_is_all (λ need. promised need rest) (λ need. met_in need (within_portion roles)) (needs role) (λ need h. comes need w h after)
-        (and_left (every (λ need. promised need rest) (needs role)) (are_met rest) met),
+          (and_left (every (λ need. promised need rest) (needs role)) (are_met rest) met),
       (λ named. defined w after named),
       filled w after (and_right (every (λ need. promised need rest) (needs role)) (are_met rest) met),
     )
 filled (begun phrase rest chosen roles is_one w) still met =
     let next = then_come phrase chosen.3 in
-    let after = tail_append next rest (tails_begun phrase chosen is_one) still in
-    (
+    let after = tail_append next rest (tails_begun phrase chosen is_one) still in (
       every_is_all (λ need. promised need (next ++ rest)) (λ need. met_in need (within_portion roles)) (needs chosen.2) (λ need h. comes need w h after)
-        (promises_append (needs chosen.2) next rest (needs_begun phrase chosen is_one)),
+          (promises_append (needs chosen.2) next rest (needs_begun phrase chosen is_one)),
       (λ named. defined w after named),
       filled w after (met_append next rest (met_begun phrase chosen is_one) met),
     )

@@ -1,5 +1,5 @@
 -- No field of a portion is its first token for want of another.
-use Rattle.std.proofs.Common.{◌≡◌, ◌≢◌, ◌⊎◌, inl, inr, ℕ, zero, suc, ◌+◌, Bool, true, false, not, cond, if◌then◌else◌, ◌||◌, ◌&&◌, IsTrue, List, [], ◌∷◌, ◌++◌, map, take, Option, Some, None, refl, sym, ◌∙◌, ap, subst, add-one}
+use Rattle.std.proofs.Common.{◌≡◌, ◌≢◌, inl, inr, ℕ, zero, suc, ◌+◌, Bool, true, false, cond, ◌||◌, IsTrue, List, [], ◌∷◌, take, Option, Some, None, refl, sym, ◌∙◌, ap, subst, add-one}
 use Rattle.std.specs.List.{AllByRecursion}
 use Rattle.proof_lexer.specs.declared.token.Token.{Token}
 use Rattle.outline_reader.specs.declared.machine.Awaited.{Awaited}
@@ -8,12 +8,11 @@ use Rattle.outline_reader.specs.declared.symbols.Role.{Role}
 use Rattle.outline_reader.specs.declared.symbols.Role.TheVariants as role
 use Rattle.outline_reader.specs.Derives as d
 use Rattle.outline_reader.specs.Derives.{Mark, Reaches, seen_after}
-use Rattle.outline_reader.specs.Views.{Argument, Labelled, Justification, by_rule, by_theorem, by_cases, by_induction, by_contradiction, by_weakening, by_exchange, by_substitution, Piece, judgment, rule, theorem, step, inversion, case_rule}
-use Rattle.outline_reader.specs.Fields.{same_role, name_or, form_of, form_if, named, all_named, forms, premises, outputs, inputs, args, named_forms, is_arg, subject, head_conclusion}
-use Rattle.outline_reader.specs.Portions.{begins, names_category, portion_length, portion_size, is_call, call, just_by, just, portion}
-use Rattle.outline_reader.specs.Filled.{Need, a_name, a_second_name, a_kind_word, a_form, an_output, an_argument, a_conclusion, a_justification, is_name, is_second_name, is_kind_word, is_conclusion, meets, met_in, needs, within_portion, AreFilled}
+use Rattle.outline_reader.specs.Views.{by_rule, by_theorem, by_cases, by_induction, by_contradiction, by_weakening, by_exchange, by_substitution, judgment, rule, theorem, step, inversion, case_rule}
+use Rattle.outline_reader.specs.Fields.{same_role, name_or, form_of, named, all_named, forms, premises, outputs, inputs, args, named_forms, is_arg, subject, head_conclusion}
+use Rattle.outline_reader.specs.Portions.{begins, names_category, portion_length, is_call, call, just_by, portion}
+use Rattle.outline_reader.specs.Filled.{Need, a_name, a_second_name, a_kind_word, an_argument, a_conclusion, is_kind_word, meets, met_in, needs, within_portion, AreFilled}
 use Rattle.outline_reader.specs.Found.{begun_by, AreFound}
-use Rattle.outline_reader.specs.Outline.{IsOutlined}
 use Rattle.outline_reader.specs.Laws.{FieldsAreFound}
 use Rattle.outline_reader.proofs.WritingLemmas.{marked_roles, writes}
 use Rattle.outline_reader.proofs.FilledLemmas.{either, or_right, within_more, portions_filled}
@@ -210,11 +209,11 @@ portion_found role.RuleBar roles tokens filled paired kind one other =
 portion_found role.AndWord roles tokens filled paired kind one other =
     let all = role.AndWord ∷ roles in
     λ i. theorem one true (name_found a_kind_word role.KindWord is_kind_word_role all tokens paired filled.0.0 one other i) (name_found a_name role.Name is_name_role all tokens paired filled.0.1.0 one other i)
-        (named role.Assumed all tokens) (inputs all tokens) (outputs all tokens) (all_named role.Target all tokens)
+    (named role.Assumed all tokens) (inputs all tokens) (outputs all tokens) (all_named role.Target all tokens)
 portion_found role.TheoremWord roles tokens filled paired kind one other =
     let all = role.TheoremWord ∷ roles in
     λ i. theorem one false (kind_absent all tokens (kind refl) one i) (name_found a_name role.Name is_name_role all tokens paired filled.0.0 one other i)
-        (named role.Assumed all tokens) (inputs all tokens) (outputs all tokens) (all_named role.Target all tokens)
+    (named role.Assumed all tokens) (inputs all tokens) (outputs all tokens) (all_named role.Target all tokens)
 portion_found role.StepName roles tokens filled paired kind one other =
     let all = role.StepName ∷ roles in
     λ i. step one (all_named role.StepName all tokens) (forms role.Form all tokens) (just_found (call all) all tokens paired (call_needs all filled) (called all tokens paired) one other i)
@@ -224,7 +223,7 @@ portion_found role.ProofWord roles tokens filled paired kind one other =
 portion_found role.InversionWord roles tokens filled paired kind one other =
     let all = role.InversionWord ∷ roles in
     λ i. inversion one (subject_found all tokens paired filled.0.0 one other i) (named_forms all tokens) (name_found a_name role.Name is_name_role all tokens paired filled.0.1.0 one other i)
-        (conclusion_found all tokens paired filled.0.1.1.0 one other i)
+    (conclusion_found all tokens paired filled.0.1.1.0 one other i)
 portion_found role.CaseWord [] tokens filled paired kind one other = refl
 portion_found role.CaseWord (role.RuleCase ∷ roles) tokens filled paired kind one other =
     let all = role.CaseWord ∷ role.RuleCase ∷ roles in
@@ -242,9 +241,11 @@ no_kind before (now ∷ roles) kinds differs = by_end (begins now || names_categ
   where
     no_and : (now : Role) → begins now ≡ false → now ≢ role.AndWord
     no_and now none is = true_not_false (begins now) (ap begins is) none
+
     not_here : (b : Bool) → is_kind_word now ≡ b → b ≡ false
     not_here true is = absurd (differs (kinds.0 is))
     not_here false is = refl
+
     by_end : (b : Bool) → (begins now || names_category roles) ≡ b → (now ≢ role.AndWord → met_in a_kind_word (within_portion roles) ≡ false) → met_in a_kind_word (within_portion (now ∷ roles)) ≡ false
     by_end true ends below = ap (met_in a_kind_word) (within_none now roles ends)
     by_end false goes_on below =
@@ -258,9 +259,9 @@ found [] tokens filled kinds paired = tt
 found (first ∷ roles) [] filled kinds paired = tt
 found (first ∷ roles) (token ∷ tokens) filled kinds paired = (
   (λ starts one other. subst (λ (n : ℕ). portion first one (take n (first ∷ roles)) (take n (token ∷ tokens)) ≡ begun_by one (portion first other (take n (first ∷ roles)) (take n (token ∷ tokens))))
-    (sym (add-one (portion_length roles)))
-    (portion_found first (within_portion roles) (token ∷ take (portion_length roles) tokens) (filled.0, filled_within roles filled.2)
-    (paired_take (portion_length roles) roles tokens paired) (no_kind_in first roles kinds) one other)),
+      (sym (add-one (portion_length roles)))
+      (portion_found first (within_portion roles) (token ∷ take (portion_length roles) tokens) (filled.0, filled_within roles filled.2)
+      (paired_take (portion_length roles) roles tokens paired) (no_kind_in first roles kinds) one other)),
   found roles tokens filled.2 kinds.1 paired,
 )
   where

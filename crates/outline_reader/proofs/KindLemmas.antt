@@ -1,7 +1,5 @@
 -- The word `theorem` or `lemma` after `and` stands nowhere else.
-use Rattle.std.proofs.Common.{◌≡◌, ◌≢◌, Bool, true, false, not, cond, if◌then◌else◌, ◌||◌, ◌&&◌, IsTrue, List, [], ◌∷◌, ◌++◌, refl, sym, ◌∙◌, ap}
-use Rattle.outline_reader.specs.declared.symbols.Place.{Place}
-use Rattle.outline_reader.specs.declared.symbols.Class.{Class}
+use Rattle.std.proofs.Common.{◌≡◌, Bool, true, false, not, if◌then◌else◌, ◌||◌, List, [], ◌∷◌, ◌++◌, refl, sym, ◌∙◌, ap}
 use Rattle.outline_reader.specs.declared.symbols.Role.{Role}
 use Rattle.outline_reader.specs.declared.symbols.Role.TheVariants as role
 use Rattle.outline_reader.specs.declared.symbols.Phrase.{Phrase}

@@ -1,5 +1,5 @@
 -- What each portion of an outline has: a token for each of its fields. To be held against 'Outline' of docs/notation.md.
-use Rattle.std.specs.Prelude.{ℕ, Bool, true, false, ◌||◌, IsTrue, List, [], ◌∷◌, take}
+use Rattle.std.specs.Prelude.{Bool, true, false, ◌||◌, IsTrue, List, [], ◌∷◌, take}
 use Rattle.std.specs.List.{AllByRecursion}
 use Rattle.outline_reader.specs.declared.symbols.Role.{Role}
 use Rattle.outline_reader.specs.declared.symbols.Role.TheVariants as role

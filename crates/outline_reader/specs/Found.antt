@@ -1,5 +1,5 @@
 -- Where the fields of a portion come from: not from its first token, for want of another. To be held against 'Outline' of docs/notation.md.
-use Rattle.std.specs.Prelude.{◌≡◌, Bool, true, false, ◌||◌, IsTrue, List, [], ◌∷◌, take}
+use Rattle.std.specs.Prelude.{◌≡◌, true, false, ◌||◌, IsTrue, List, [], ◌∷◌, take}
 use Rattle.proof_lexer.specs.declared.token.Token.{Token}
 use Rattle.outline_reader.specs.declared.symbols.Role.{Role}
 use Rattle.outline_reader.specs.Views.{Piece, terminals, syntax, category, judgment, rule, theorem, step, inversion, case_rule, case_term, end_line}
@@ -27,6 +27,6 @@ AreFound [] tokens = Unit {0}
 AreFound (first ∷ roles) [] = Unit {0}
 AreFound (first ∷ roles) (token ∷ tokens) =
     (IsTrue (begins first || names_category roles) → (one other : Token) →
-        portion first one (take (portion_size (first ∷ roles)) (first ∷ roles)) (take (portion_size (first ∷ roles)) (token ∷ tokens))
-        ≡ begun_by one (portion first other (take (portion_size (first ∷ roles)) (first ∷ roles)) (take (portion_size (first ∷ roles)) (token ∷ tokens))))
+    portion first one (take (portion_size (first ∷ roles)) (first ∷ roles)) (take (portion_size (first ∷ roles)) (token ∷ tokens))
+    ≡ begun_by one (portion first other (take (portion_size (first ∷ roles)) (first ∷ roles)) (take (portion_size (first ∷ roles)) (token ∷ tokens))))
     × AreFound roles tokens
