@@ -14,6 +14,8 @@ mod shown;
 #[cfg(test)]
 mod texts;
 #[cfg(test)]
+mod theorems;
+#[cfg(test)]
 mod theories;
 #[cfg(test)]
 mod tokens;

@@ -1,18 +1,36 @@
 // The outlines of whole files, and where other texts stop.
 use crate::shown::shown;
 use crate::texts::{declarations, limits, reserved_words, theorems};
+use crate::theorems::worked_theorems;
 use crate::theories::{files, sums, sums_broken_off};
+use outline_reader::{fields_are_found, portions_are_filled, portions_are_unique};
 use std::alloc::Global;
 use std::test::Fail;
+
+/// The outline of a text, or its fault, without the blanks in front of its lines.
+fn lines_shown(alloc: Global, source: &str) -> Result<String, Fail> {
+    let found = shown(alloc, source.as_bytes())?;
+    let mut lines = String::new(alloc);
+    for line in found.as_str().lines() {
+        lines.push_str(line.trim())?;
+        lines.push_str("\n")?;
+    }
+    Ok(lines)
+}
 
 #[test]
 fn files_have_their_outlines(rt: HostRuntime) -> Result<(), Fail> {
     for (source, outline) in files() {
-        let mut lines = String::new(rt.alloc());
-        for line in shown(rt.alloc(), source.as_bytes())?.as_str().lines() {
-            lines.push_str(line.trim())?;
-            lines.push_str("\n")?;
-        }
+        let lines = lines_shown(rt.alloc(), source)?;
+        assert_eq!(rt; lines.as_str(), *outline, "of {source}");
+    }
+    Ok(())
+}
+
+#[test]
+fn worked_theorems_have_their_outlines(rt: HostRuntime) -> Result<(), Fail> {
+    for (source, outline) in worked_theorems() {
+        let lines = lines_shown(rt.alloc(), source)?;
         assert_eq!(rt; lines.as_str(), *outline, "of {source}");
     }
     Ok(())
@@ -101,4 +119,11 @@ fn limits_are_passed_by_one(rt: HostRuntime) -> Result<(), Fail> {
         assert_eq!(rt; shown(rt.alloc(), beyond_it.as_bytes())?.as_str(), *beyond);
     }
     Ok(())
+}
+
+#[test]
+fn laws_are_called() {
+    portions_are_unique();
+    portions_are_filled();
+    fields_are_found();
 }

@@ -1,11 +1,11 @@
-// The lines of the worked rows, and beside each its words.
+// Lines of worked theorems and derivations, and beside each its words.
 
-/// The lines of the first rows.
+/// The lines of the first of them.
 pub(crate) fn first_rows() -> &'static [(&'static str, &'static str)] {
     &FIRST
 }
 
-/// The lines of the later rows.
+/// The lines of the others.
 pub(crate) fn later_rows() -> &'static [(&'static str, &'static str)] {
     &LATER
 }

@@ -1,6 +1,10 @@
 // Each call on schemes once, on schemes like `fn x => fn x' => t[x, x']`.
 use binding_terms::{Arg, ArgList, CatId, NoMemory, ProdId, Term, Text, same};
-use scheme_terms::laws::{apply_both_ways, instance_both_ways};
+use scheme_terms::laws::{
+    applied_twice, applied_under_locals, apply_both_ways, apply_keeps_scope, compose_keeps_scope,
+    followed_fits, identity_changes_nothing, instance_both_ways, instance_keeps_scope,
+    instance_of_applied, instance_raised, names_decide, shift_keeps_scheme, strict_agreement,
+};
 use scheme_terms::{
     CtxValue, Entry, Inst, KnownDecl, MetaDecl, MetaId, Root, SArg, SEntry, Scheme, Scope, Subst,
     apply, compose, copy_entry, copy_scheme, copy_scope, identity_of, instance, known_in,
@@ -274,4 +278,20 @@ fn both_ways(rt: HostRuntime) -> Result<(), Fail> {
     )?;
     assert!(rt; same(&left, &right));
     Ok(())
+}
+
+#[test]
+fn laws_are_called() {
+    applied_twice();
+    applied_under_locals();
+    apply_keeps_scope();
+    compose_keeps_scope();
+    followed_fits();
+    identity_changes_nothing();
+    instance_keeps_scope();
+    instance_of_applied();
+    instance_raised();
+    names_decide();
+    shift_keeps_scheme();
+    strict_agreement();
 }

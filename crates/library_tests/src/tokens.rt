@@ -1,4 +1,4 @@
-// The tokens of the worked rows.
+// The tokens of worked theorems and derivations.
 use crate::rows::{first_rows, later_rows};
 use proof_lexer::{LexFault, Token, lex};
 use std::alloc::{AllocError, Global};

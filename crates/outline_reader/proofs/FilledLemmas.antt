@@ -1,9 +1,6 @@
 -- No portion of an outline lacks a token for one of its fields.
-use Rattle.std.proofs.Common.{◌≡◌, ◌≢◌, ◌⊎◌, inl, inr, ℕ, ◌+◌, Bool, true, false, not, cond, if◌then◌else◌, ◌||◌, ◌&&◌, IsTrue, List, [], ◌∷◌, ◌++◌, map, take, refl, sym, ◌∙◌, ap, subst, add-one}
+use Rattle.std.proofs.Common.{◌≡◌, ◌⊎◌, inl, inr, ◌+◌, Bool, true, false, not, cond, if◌then◌else◌, ◌||◌, ◌&&◌, IsTrue, List, [], ◌∷◌, ◌++◌, take, refl, sym, ◌∙◌, ap, subst, add-one}
 use Rattle.std.specs.List.{AllByRecursion}
-use Rattle.proof_lexer.specs.declared.token.Token.{Token}
-use Rattle.outline_reader.specs.declared.symbols.Place.{Place}
-use Rattle.outline_reader.specs.declared.symbols.Class.{Class}
 use Rattle.outline_reader.specs.declared.symbols.Role.{Role}
 use Rattle.outline_reader.specs.declared.symbols.Role.TheVariants as role
 use Rattle.outline_reader.specs.declared.symbols.Phrase.{Phrase}
@@ -17,56 +14,56 @@ use Rattle.outline_reader.specs.Derives as d
 use Rattle.outline_reader.specs.Derives.{IsOneOf, whole}
 use Rattle.outline_reader.specs.Machine.{is_once}
 use Rattle.outline_reader.specs.Portions.{begins, names_category, portion_length}
-use Rattle.outline_reader.specs.Filled.{Need, a_name, a_second_name, a_kind_word, a_form, an_output, an_argument, a_conclusion, a_justification, an_ending, a_definition, a_new_definition, is_new_definition, meets, met_in, needs, within_portion, AreFilled}
+use Rattle.outline_reader.specs.Filled.{Need, a_name, a_kind_word, a_form, an_output, an_argument, a_conclusion, a_justification, a_definition, a_new_definition, is_new_definition, meets, met_in, needs, within_portion, AreFilled}
 use Rattle.outline_reader.specs.Laws.{PortionsAreFilled}
-use Rattle.outline_reader.proofs.WritingLemmas.{then_come, Writes, nothing, one_token, begun, none, symbols, writes}
+use Rattle.outline_reader.proofs.WritingLemmas.{then_come, Writes, nothing, one_token, begun, none, writes}
 
 -- ---- truth
 
-and_left : (a b : Bool) → (a && b) ≡ true → a ≡ true
+pub and_left : (a b : Bool) → (a && b) ≡ true → a ≡ true
 and_left true b h = refl
 and_left false b h = h
 
-and_right : (a b : Bool) → (a && b) ≡ true → b ≡ true
+pub and_right : (a b : Bool) → (a && b) ≡ true → b ≡ true
 and_right true b h = h
 and_right false b h = absurd (let no : false ≡ true = h in cc)
 
-and_both : (a b : Bool) → a ≡ true → b ≡ true → (a && b) ≡ true
+pub and_both : (a b : Bool) → a ≡ true → b ≡ true → (a && b) ≡ true
 and_both true b first second = second
 and_both false b first second = first
 
-or_left : (a b : Bool) → a ≡ true → (a || b) ≡ true
+pub or_left : (a b : Bool) → a ≡ true → (a || b) ≡ true
 or_left true b h = refl
 or_left false b h = absurd (let no : false ≡ true = h in cc)
 
-or_right : (a b : Bool) → b ≡ true → (a || b) ≡ true
+pub or_right : (a b : Bool) → b ≡ true → (a || b) ≡ true
 or_right true b h = refl
 or_right false b h = h
 
-either : (a b : Bool) → (a || b) ≡ true → (a ≡ true) ⊎ (b ≡ true)
+pub either : (a b : Bool) → (a || b) ≡ true → (a ≡ true) ⊎ (b ≡ true)
 either true b h = inl refl
 either false b h = inr h
 
-not_true : (a : Bool) → not a ≡ true → a ≡ false
+pub not_true : (a : Bool) → not a ≡ true → a ≡ false
 not_true true h = absurd (let no : false ≡ true = h in cc)
 not_true false h = refl
 
-where_true : (a b : Bool) → (if a then b else true) ≡ true → a ≡ true → b ≡ true
+pub where_true : (a b : Bool) → (if a then b else true) ≡ true → a ≡ true → b ≡ true
 where_true true b h is = h
 where_true false b h is = absurd (let no : false ≡ true = is in cc)
 
 -- ---- lists
 
-every : {A : Type 0} → (A → Bool) → List A → Bool
+unfoldable pub every : {A : Type 0} → (A → Bool) → List A → Bool
 every test [] = true
 every test (x ∷ xs) = test x && every test xs
 
-every_one : (test : Alternative → Bool) {chosen : Alternative} {all : List Alternative} → IsOneOf chosen all → every test all ≡ true → test chosen ≡ true
+pub every_one : (test : Alternative → Bool) {chosen : Alternative} {all : List Alternative} → IsOneOf chosen all → every test all ≡ true → test chosen ≡ true
 unfolding every
 every_one test {chosen = chosen} (d.first rest) h = and_left (test chosen) (every test rest) h
 every_one test (d.later other rest is_one) h = every_one test is_one (and_right (test other) (every test rest) h)
 
-every_append : {A : Type 0} (test : A → Bool) (xs ys : List A) → every test xs ≡ true → every test ys ≡ true → every test (xs ++ ys) ≡ true
+pub every_append : {A : Type 0} (test : A → Bool) (xs ys : List A) → every test xs ≡ true → every test ys ≡ true → every test (xs ++ ys) ≡ true
 unfolding every
 every_append test [] ys first second = second
 every_append test (x ∷ xs) ys first second =
@@ -326,7 +323,7 @@ calm_first (begun phrase rest chosen roles is_one w) h = names_first chosen.2 ro
 calm_first (none phrase rest roles optional w) h = calm_first w (and_right (calm (Choice phrase)) (every calm rest) h)
 
 -- a token that begins no portion, before one that begins none either
-within_more : (one : Role) (roles : List Role) → begins one ≡ false → names_category roles ≡ false → within_portion (one ∷ roles) ≡ one ∷ within_portion roles
+pub within_more : (one : Role) (roles : List Role) → begins one ≡ false → names_category roles ≡ false → within_portion (one ∷ roles) ≡ one ∷ within_portion roles
 within_more one roles begins_none defines_none =
     (λ i. take (cond (begins_none i || defines_none i) 0 (portion_length roles + 1)) (one ∷ roles))
     ∙ ap (λ n. take n (one ∷ roles)) (add-one (portion_length roles))

@@ -10,3 +10,5 @@ pub mod PortionLemmas
 pub mod UniqueLemmas
 pub mod WritingLemmas
 pub mod FilledLemmas
+pub mod KindLemmas
+pub mod FoundLemmas

@@ -1,15 +1,12 @@
 -- What the grammar writes, by the roles of the tokens alone.
-use Rattle.std.proofs.Common.{◌≡◌, ◌≢◌, ◌⊎◌, inl, inr, ℕ, ◌+◌, Bool, true, false, not, cond, ◌||◌, ◌&&◌, IsTrue, List, [], ◌∷◌, ◌++◌, map, take, refl, sym, ◌∙◌, ap, subst}
-use Rattle.proof_lexer.specs.declared.token.Token.{Token}
+use Rattle.std.proofs.Common.{◌≡◌, ◌≢◌, List, [], ◌∷◌, ◌++◌, map, refl, ◌∙◌, ap, subst}
 use Rattle.outline_reader.specs.declared.fault.Part.{Part}
 use Rattle.outline_reader.specs.declared.machine.Awaited.{Awaited}
 use Rattle.outline_reader.specs.declared.machine.Seen.{Seen}
 use Rattle.outline_reader.specs.declared.symbols.Place.{Place}
 use Rattle.outline_reader.specs.declared.symbols.Class.{Class}
 use Rattle.outline_reader.specs.declared.symbols.Role.{Role}
-use Rattle.outline_reader.specs.declared.symbols.Role.TheVariants as role
 use Rattle.outline_reader.specs.declared.symbols.Phrase.{Phrase}
-use Rattle.outline_reader.specs.declared.symbols.Phrase.TheVariants as p
 use Rattle.outline_reader.specs.declared.symbols.Times.{Times}
 use Rattle.outline_reader.specs.declared.symbols.Times.TheVariants as times
 use Rattle.outline_reader.specs.declared.symbols.Rest.{Rest}
@@ -18,7 +15,7 @@ use Rattle.outline_reader.specs.declared.symbols.Symbol.TheVariants.{One, Choice
 use Rattle.outline_reader.specs.declared.symbols.Item.{Item}
 use Rattle.outline_reader.specs.declared.symbols.Item.TheVariants.{Here, In}
 use Rattle.outline_reader.specs.Grammar.{Alternative, times_of, alternatives, items}
-use Rattle.outline_reader.specs.Derives.{Mark, again, await, opened, IsOneOf, first, later, Reaches, here, token, alternative, left_out, Derives}
+use Rattle.outline_reader.specs.Derives.{Mark, again, await, opened, IsOneOf, here, token, alternative, left_out, Derives}
 
 -- ---- writing
 

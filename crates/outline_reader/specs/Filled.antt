@@ -1,5 +1,5 @@
 -- What each portion of an outline has: a token for each of its fields. To be held against 'Outline' of docs/notation.md.
-use Rattle.std.specs.Prelude.{ℕ, Bool, true, false, ◌||◌, IsTrue, List, [], ◌∷◌, take}
+use Rattle.std.specs.Prelude.{Bool, true, false, ◌||◌, IsTrue, List, [], ◌∷◌, take}
 use Rattle.std.specs.List.{AllByRecursion}
 use Rattle.outline_reader.specs.declared.symbols.Role.{Role}
 use Rattle.outline_reader.specs.declared.symbols.Role.TheVariants as role
@@ -112,11 +112,11 @@ needs role.Exchange = a_name ∷ []
 needs role.Substitution = a_name ∷ a_second_name ∷ []
 needs _ = []
 
--- the tokens of the portion that come first, before the next portion begins
+-- the roles up to the next portion
 abbrev pub within_portion : List Role → List Role
 within_portion roles = take (portion_length roles) roles
 
--- each token of the roles is followed, in its portion, by what it needs
+-- each token has behind it, in its portion, what it needs; where a later category is defined, the token before the `::=` begins its portion
 abbrev pub AreFilled : List Role → Type 0
 AreFilled [] = Unit {0}
 AreFilled (first ∷ roles) =

@@ -6,6 +6,7 @@ use Rattle.proof_lexer.specs.declared.token.Token.{Token}
 use Rattle.outline_reader.specs.declared.symbols.Role.{Role}
 use Rattle.outline_reader.specs.Outline.{IsOutline, IsOutlined}
 use Rattle.outline_reader.specs.Filled.{AreFilled}
+use Rattle.outline_reader.specs.Found.{AreFound}
 use Rattle.outline_reader.specs.Plain.{PlainPortion, HasPortions}
 use Rattle.outline_reader.specs.Views.{Piece}
 
@@ -22,3 +23,7 @@ abbrev pub TokensAreOutlined : Type 0
 TokensAreOutlined =
     (source : List ℕ) (portions : List PlainPortion) (tokens : List Token) → HasPortions source portions → AreTokens source (map token_view tokens) →
     (pieces : List Piece) × IsOutline tokens pieces
+
+-- no field of a portion is its first token for want of another
+abbrev pub FieldsAreFound : Type 0
+FieldsAreFound = (tokens : List Token) (roles : List Role) → IsOutlined tokens roles → AreFound roles tokens

@@ -10,4 +10,5 @@ pub mod Views
 pub mod Portions
 pub mod Plain
 pub mod Filled
+pub mod Found
 pub mod Laws

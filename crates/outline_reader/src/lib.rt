@@ -14,6 +14,6 @@ mod sort;
 mod symbols;
 
 pub use fault::{Limit, OutlineFault, Part};
-pub use laws::{portions_are_filled, portions_are_unique, tokens_are_outlined};
+pub use laws::{fields_are_found, portions_are_filled, portions_are_unique, tokens_are_outlined};
 pub use parts::{ArgText, Form, InputText, Just, Name, NamedForm, Outline, Portion};
 pub use reader::outline;
