@@ -1,0 +1,5 @@
+pub mod Cited
+pub mod Finding
+pub mod Plain
+pub mod Steps
+pub mod Written

@@ -1,0 +1,62 @@
+-- The core steps for which the proofs of a file stand. To be held against docs/notation.md, 'Outline' and 'Steps'. So far a step stands for
+-- a core step only where it goes by a rule: for all other steps the relation has no case yet.
+use Rattle.std.specs.Prelude.{◌≡◌, ℕ, suc, List, [], ◌∷◌, ◌++◌, map, Option, Some, None, slice_get, unwrap_or}
+use Rattle.std.specs.List.{AllZip}
+use Rattle.scheme_terms.specs.Forms.{Names}
+use Rattle.rule_schemes.specs.Rules.{JudgmentScheme, Theory}
+use Rattle.rule_schemes.specs.Statement.{Theorem}
+use Rattle.core_proofs.specs.Step.{Step, begin_theorem, end_theorem, by_rule}
+use Rattle.core_proofs.specs.Proof.{IsProofScope}
+use Rattle.sy_base.specs.Tokens.{PlainToken}
+use Rattle.outline_reader.specs.declared.fault.Part.{Part}
+use Rattle.outline_reader.specs.declared.fault.Part.TheVariants as parts
+use Rattle.outline_reader.specs.Plain.{PlainArgument, PlainJustification, by_rule_of, PlainPortion, terminals, syntax_word, category, judgment_of, rule_of, theorem_of, step_of, end_line}
+use Rattle.proof_check.specs.Cited.{IsNumberOf, IsCitedAs, given_names}
+use Rattle.proof_check.specs.Written.{Says}
+
+-- The core step of a step with this first token, justification and form, where these names are in scope. A rule is the first of its name.
+pub data IsStepOf (th : Theory) (named : List (List ℕ)) (first : PlainToken) (why : PlainJustification) (form : JudgmentScheme) (step : Step) : Type 0 where
+  by_its_rule : (name : PlainToken) (arguments : List PlainArgument) (r : ℕ) (on : List ℕ) →
+      why ≡ by_rule_of name arguments → IsNumberOf name.text (map (λ rule. rule.name) th.rules) r → AllZip (IsCitedAs named) arguments on →
+      step ≡ by_rule first.line form r on → IsStepOf th named first why form step
+
+-- the core step for which a written step stands, and the name that it gives
+pub record StandsFor (th : Theory) (st : Theorem) (scope : Names) (named : List (List ℕ)) (first : PlainToken) (names : List PlainToken) (forms : List (List PlainToken)) (why : PlainJustification) (name : List ℕ) (step : Step) : Type 0 where
+  pub form : JudgmentScheme
+  pub says : Says th st scope named names forms name form
+  pub justified : IsStepOf th named first why form step
+
+-- the `end` line of a theorem or lemma
+abbrev pub EndsProof : Part → Type 0
+EndsProof parts.Theorem = Unit {0}
+EndsProof parts.Lemma = Unit {0}
+EndsProof _ = ⊥
+
+-- The steps from a portion on. Outside of proofs, where so many theorems stand before: each theorem begins the proof of the statement with
+-- its number. Within a proof, with the names in scope and the line of the last step, if any: each step stands for a core step, up to the
+-- `end` line, which ends the proof on the line of the last step, or on its own where there is none.
+abbrev mutual
+  pub AreStepsFrom : Theory → List Theorem → (theorem : ℕ) → List PlainPortion → List Step → Type 0
+  AreStepsFrom th sts k [] steps = steps ≡ []
+  AreStepsFrom th sts k (theorem_of first joined kind name assumes inputs outputs targets ∷ portions) steps =
+      (st : Theorem) × (scope : Names) × (rest : List Step) × (slice_get sts k ≡ Some st) × IsProofScope st scope
+      × (steps ≡ begin_theorem k ∷ rest) × AreProofSteps th sts k st scope (given_names inputs) None portions rest
+  AreStepsFrom th sts k (terminals first items ∷ portions) steps = AreStepsFrom th sts k portions steps
+  AreStepsFrom th sts k (syntax_word first ∷ portions) steps = AreStepsFrom th sts k portions steps
+  AreStepsFrom th sts k (category name productions ∷ portions) steps = AreStepsFrom th sts k portions steps
+  AreStepsFrom th sts k (judgment_of first name form assumes ∷ portions) steps = AreStepsFrom th sts k portions steps
+  AreStepsFrom th sts k (rule_of premises name conclusion ∷ portions) steps = AreStepsFrom th sts k portions steps
+  AreStepsFrom th sts k (_ ∷ portions) steps = ⊥
+
+  pub AreProofSteps : Theory → List Theorem → (theorem : ℕ) → Theorem → Names → (named : List (List ℕ)) → (last : Option ℕ) → List PlainPortion → List Step → Type 0
+  AreProofSteps th sts k st scope named last [] steps = ⊥
+  AreProofSteps th sts k st scope named last (step_of first names forms why ∷ portions) steps =
+      (name : List ℕ) × (step : Step) × (rest : List Step) × StandsFor th st scope named first names forms why name step
+      × (steps ≡ step ∷ rest) × AreProofSteps th sts k st scope (named ++ name ∷ []) (Some first.line) portions rest
+  AreProofSteps th sts k st scope named last (end_line first part ∷ portions) steps =
+      EndsProof part × ((rest : List Step) × (steps ≡ end_theorem (unwrap_or last first.line) ∷ rest) × AreStepsFrom th sts (suc k) portions rest)
+  AreProofSteps th sts k st scope named last (_ ∷ portions) steps = ⊥
+
+-- the core steps for which the proofs of a file stand, theorem by theorem
+abbrev pub AreStepsOf : List PlainPortion → Theory → List Theorem → List Step → Type 0
+AreStepsOf portions th statements steps = AreStepsFrom th statements 0 portions steps
