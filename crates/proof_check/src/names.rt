@@ -24,12 +24,18 @@ pub fn number(at: usize) -> Result<u32, NoMemory>
     }
 }
 
+fn is_same(one: &[u8], other: &[u8]) -> bool
+    ensures { IsTrue result ↔ (one.now ≡ other.now) }
+{
+    one == other
+}
+
 /// The number of the first of the names that is this one.
 pub fn number_of(name: &[u8], names: &[Text]) -> Option<usize>
     ensures { Finds (IsNumberOf name.now names.now) result }
 {
     for i in 0..names.len() {
-        if names[i].bytes() == name {
+        if is_same(names[i].bytes(), name) {
             return Some(i);
         }
     }
@@ -40,7 +46,7 @@ fn first_named(name: &[u8], rules: &[RuleScheme]) -> Option<usize>
     ensures { Finds (IsNumberOf name.now (map (λ r. r.name) rules.now)) result }
 {
     for i in 0..rules.len() {
-        if rules[i].name.bytes() == name {
+        if is_same(rules[i].name.bytes(), name) {
             return Some(i);
         }
     }
@@ -64,7 +70,7 @@ fn is_new(name: &[u8], names: &[Text]) -> bool
     ensures { IsTrue result ↔ AllByRecursion (λ other. other ≢ name.now) names.now }
 {
     for other in names {
-        if other.bytes() == name {
+        if is_same(other.bytes(), name) {
             return false;
         }
     }

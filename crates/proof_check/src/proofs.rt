@@ -50,11 +50,11 @@ fn add_proof<'a, 'b>(
     requires settled { reading_scope scope.now ≡ settled (plain_names scope.now.scope) }
     ensures { IfOk result (λ found. MatchOption found
         ((sts : List Theorem) (k : ℕ) (all : List Step) → AreProofSteps (theory sys.now) sts k (plain statement.now)
-            (plain_names scope.now.scope) named Option.None (map plain_portion (map portion_view portions.entry.now)) all → ⊥)
+            (plain_names scope.now.scope) named None (map plain_portion (map portion_view portions.entry.now)) all → ⊥)
         (λ behind. (length behind.now ≤ length portions.entry.now)
           × ((sts : List Theorem) (k : ℕ) → Adds (map step steps.old.items) (map step steps.new.items)
             (AreProofSteps (theory sys.now) sts k (plain statement.now)
-              (plain_names scope.now.scope) named Option.None (map plain_portion (map portion_view portions.entry.now)))
+              (plain_names scope.now.scope) named None (map plain_portion (map portion_view portions.entry.now)))
             (AreStepsFrom (theory sys.now) sts (suc k) (map plain_portion (map portion_view behind.now)))))) }
 {
     let mut last = None;

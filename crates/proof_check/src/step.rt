@@ -1,7 +1,8 @@
 // The core step for which a written step stands.
-ghost use Rattle.std.specs.Prelude.{◌≡◌, IfOk, map, option_map};
+ghost use Rattle.std.specs.Prelude.{◌≡◌, IfOk, ℕ, List, map, option_map};
 ghost use Rattle.scheme_terms.specs.View.{names as plain_names};
 ghost use Rattle.rule_schemes.specs.Said.{want_judgment};
+ghost use Rattle.rule_schemes.specs.Rules.{JudgmentScheme};
 ghost use Rattle.rule_schemes.specs.View.{judgment_scheme, statement as plain, theory};
 ghost use Rattle.notation_parser.specs.Plain.{IsPlain};
 ghost use Rattle.notation_parser.specs.View.{reading_scope};
@@ -9,6 +10,7 @@ ghost use Rattle.proof_lexer.specs.View.{token_view};
 ghost use Rattle.outline_reader.specs.Views.{arg_view, just_view};
 ghost use Rattle.outline_reader.specs.Plain.{plain_argument, plain_form, plain_justification, by_rule_of};
 ghost use Rattle.judgments.specs.Written.{settled};
+ghost use Rattle.core_proofs.specs.Step.{Step};
 ghost use Rattle.core_proofs.specs.View.{step};
 ghost use Rattle.proof_check.specs.Cited.{UNNAMED, MayBeGiven};
 ghost use Rattle.proof_check.specs.Finding.{Finds};
@@ -30,7 +32,7 @@ fn said_by_goal(
     statement: &Statement,
 ) -> Result<Option<(Text, JScheme)>, NoMemory>
     ensures { IfOk result (λ found. Finds
-        (λ said. (said.0 ≡ UNNAMED) × IsGoal (plain statement.now) said.1)
+        (λ (said : List ℕ × JudgmentScheme). (said.0 ≡ UNNAMED) × IsGoal (plain statement.now) said.1)
         (option_map (λ said. (said.0, judgment_scheme said.1)) found)) }
 {
     match goal(alloc, statement)? {
@@ -51,7 +53,7 @@ fn said_by_form(
     requires plain { IsPlain sys.now.sig sys.now.judgments (reading_scope scope.now) want_judgment }
     requires settled { reading_scope scope.now ≡ settled (plain_names scope.now.scope) }
     ensures { IfOk result (λ found. Finds
-        (λ said. (said.0 ≡ name.now.text.now) × MayBeGiven sys.now.sig named.now name.now.text.now
+        (λ (said : List ℕ × JudgmentScheme). (said.0 ≡ name.now.text.now) × MayBeGiven sys.now.sig named.now name.now.text.now
           × IsFormOf (theory sys.now) (plain_names scope.now.scope) (map token_view form.now) said.1)
         (option_map (λ said. (said.0, judgment_scheme said.1)) found)) }
 {
@@ -77,7 +79,7 @@ fn said(
     requires plain { IsPlain sys.now.sig sys.now.judgments (reading_scope scope.now) want_judgment }
     requires settled { reading_scope scope.now ≡ settled (plain_names scope.now.scope) }
     ensures { IfOk result (λ found. Finds
-        (λ said. Says (theory sys.now) (plain statement.now) (plain_names scope.now.scope) named.now
+        (λ (said : List ℕ × JudgmentScheme). Says (theory sys.now) (plain statement.now) (plain_names scope.now.scope) named.now
           (map token_view (map (λ name. name.now) names.now)) (map plain_form (map (λ form. form.now) forms.now)) said.0 said.1)
         (option_map (λ said. (said.0, judgment_scheme said.1)) found)) }
 {
@@ -154,7 +156,7 @@ pub fn step_of(
     requires plain { IsPlain sys.now.sig sys.now.judgments (reading_scope scope.now) want_judgment }
     requires settled { reading_scope scope.now ≡ settled (plain_names scope.now.scope) }
     ensures { IfOk result (λ found. Finds
-        (λ made. StandsFor (theory sys.now) (plain statement.now) (plain_names scope.now.scope) named.now (token_view first.now)
+        (λ (made : List ℕ × Step). StandsFor (theory sys.now) (plain statement.now) (plain_names scope.now.scope) named.now (token_view first.now)
           (map token_view (map (λ name. name.now) names.now)) (map plain_form (map (λ form. form.now) forms.now))
           (plain_justification (just_view just.now)) made.0 made.1)
         (option_map (λ made. (made.0, step made.1)) found)) }

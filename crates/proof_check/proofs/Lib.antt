@@ -1,0 +1,4 @@
+mod FindingLemmas
+mod NumberLemmas
+mod ScopeLemmas
+mod FormLemmas

@@ -1,0 +1,40 @@
+-- Where the names of the inputs end among the names of a statement.
+use Rattle.std.proofs.Common.{◌≡◌, ◌≢◌, ◌↔◌, ◌<◌, ◌≤◌, ◌+◌, ℕ, zero, suc, true, false, IsTrue, List, [], ◌∷◌, ◌++◌, length, take, drop, refl, sym, ap, subst, ◌∙◌, inl, inr, ◌⊎◌, add-one, arith}
+use Rattle.std.proofs.lemmas.List.{take_more, length-take}
+use Rattle.std.proofs.lemmas.Option.{slice_get_cases}
+use Rattle.binding_terms.specs.Numbered.{AllNumbered}
+use Rattle.proof_check.proofs.FindingLemmas.{left}
+
+pub next : {A : Type 0} (xs : List A) (i : ℕ) → i < length xs → (x : A) × (drop i xs ≡ x ∷ drop (i + 1) xs)
+next xs i lt = elim (slice_get_cases xs i).1 [
+  | inl found ↦ (found.0, left xs i found.0 lt (sym found.3))
+  | inr past ↦ absurd (omega (arith, past.0))
+]
+
+-- what holds of each number from one on, and of those behind it
+pub numbered_left : {A : Type 0} (P : ℕ → Type 0) (xs : List A) (i : ℕ) (W : Type 0) → i < length xs → P i → (AllNumbered (λ m x. P m) i (drop i xs) ↔ W) →
+    AllNumbered (λ m x. P m) (i + 1) (drop (i + 1) xs) ↔ W
+numbered_left P xs i W lt here h =
+    let n = next xs i lt in
+    let k : AllNumbered (λ m x. P m) i (n.0 ∷ drop (i + 1) xs) ↔ W = subst (λ ys. AllNumbered (λ m x. P m) i ys ↔ W) n.1 h in
+    (λ all. k.0 (here, subst (λ j. AllNumbered (λ m x. P m) j (drop (i + 1) xs)) (add-one i) all),
+     λ w. subst (λ j. AllNumbered (λ m x. P m) j (drop (i + 1) xs)) (sym (add-one i)) (k.1 w).1)
+
+pub numbered_fails : {A : Type 0} (P : ℕ → Type 0) (xs : List A) (i : ℕ) (W : Type 0) → i < length xs → (P i → ⊥) → (AllNumbered (λ m x. P m) i (drop i xs) ↔ W) →
+    IsTrue false ↔ W
+numbered_fails P xs i W lt not_here h =
+    let n = next xs i lt in
+    let k : AllNumbered (λ m x. P m) i (n.0 ∷ drop (i + 1) xs) ↔ W = subst (λ ys. AllNumbered (λ m x. P m) i ys ↔ W) n.1 h in
+    (λ t. (let never : false ≡ true = t in absurd cc), λ w. absurd (not_here (k.1 w).0))
+
+numbered_push : {A : Type 0} (P : ℕ → Type 0) (n : ℕ) (xs : List A) (x : A) (k : ℕ) → k ≡ n + length xs → AllNumbered (λ m x. P m) n xs → P k → AllNumbered (λ m x. P m) n (xs ++ x ∷ [])
+numbered_push P n [] x k e all here = (subst P (omega (arith, e)) here, tt)
+numbered_push P n (y ∷ ys) x k e all here = (all.0, numbered_push P (suc n) ys x k (omega (arith, e)) all.1 here)
+
+pub numbered_more : {A : Type 0} (P : ℕ → Type 0) (xs : List A) (i : ℕ) → i < length xs → P i → AllNumbered (λ m x. P m) 0 (take i xs) → AllNumbered (λ m x. P m) 0 (take (i + 1) xs)
+numbered_more P xs i lt here all =
+    let n = next xs i lt in
+    elim (slice_get_cases xs i).1 [
+      | inl found ↦ subst (AllNumbered (λ m x. P m) 0) (sym (take_more xs i found.0 lt)) (numbered_push P 0 (take i xs) _ i (omega (arith, length-take i xs)) all here)
+      | inr past ↦ absurd (omega (arith, past.0))
+    ]
