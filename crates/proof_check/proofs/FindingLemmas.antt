@@ -1,5 +1,5 @@
 -- Lists that begin with what was found.
-use Rattle.std.proofs.Common.{◌≡◌, ◌<◌, ◌+◌, ℕ, List, [], ◌∷◌, ◌++◌, Some, None, length, get_or, drop, map, refl, sym, ap, subst, ◌∙◌, append_assoc}
+use Rattle.std.proofs.Common.{◌≡◌, ◌<◌, ◌+◌, ℕ, List, [], ◌∷◌, ◌++◌, Some, None, ◌≤◌, length, get_or, drop, map, refl, sym, ap, subst, ◌∙◌, append_assoc}
 use Rattle.std.proofs.lemmas.List.{append-nil, drop_more}
 use Rattle.std.specs.List.{AllZip}
 use Rattle.proof_check.specs.Finding.{Finds, Begins, Adds}
@@ -46,3 +46,21 @@ zip_end C (n ∷ ns) h = absurd h
 -- what is left of a list is its next element and what is left behind it
 pub left : {A : Type 0} (xs : List A) (i : ℕ) (x : A) → i < length xs → x ≡ get_or xs i x → drop i xs ≡ x ∷ drop (i + 1) xs
 left xs i x lt is = drop_more xs i x lt ∙ ap (λ y. y ∷ drop (i + 1) xs) (sym is)
+
+-- the same in a loop over a list that is seen in another way
+module _ {X A B : Type 0} (V : List X → List A) (v : X → A) (same : (x : X) (xs : List X) → V (x ∷ xs) ≡ v x ∷ V xs) (C : A → B → Type 0) where
+  pub zip_turn : (xs : List X) (i : ℕ) (d : X) (n : B) → i < length xs → Finds (C (v (get_or xs i d))) (Some n) →
+      Begins (AllZip C (V (drop i xs))) (AllZip C (V (drop (i + 1) xs))) (n ∷ [])
+  zip_turn xs i d n lt f =
+      let e : V (drop i xs) ≡ v (get_or xs i d) ∷ V (drop (i + 1) xs) = ap V (drop_more xs i d lt) ∙ same (get_or xs i d) (drop (i + 1) xs) in
+      subst (λ (ys : List A). Begins (AllZip C ys) (AllZip C (V (drop (i + 1) xs))) (n ∷ [])) (sym e) (zip_some C (v (get_or xs i d)) (V (drop (i + 1) xs)) n f)
+
+  pub zip_stop : (xs : List X) (i : ℕ) (d : X) → i < length xs → Finds (C (v (get_or xs i d))) None → (ns : List B) → AllZip C (V (drop i xs)) ns → ⊥
+  zip_stop xs i d lt f ns h =
+      let e : V (drop i xs) ≡ v (get_or xs i d) ∷ V (drop (i + 1) xs) = ap V (drop_more xs i d lt) ∙ same (get_or xs i d) (drop (i + 1) xs) in
+      zip_none C (v (get_or xs i d)) (V (drop (i + 1) xs)) f ns (subst (λ (ys : List A). AllZip C ys ns) e h)
+
+  pub zip_past : (xs : List X) (i : ℕ) → length xs ≤ i → V [] ≡ [] → drop i xs ≡ [] → (AllZip C (V (drop i xs)) []) × ((ns : List B) → AllZip C (V (drop i xs)) ns → ns ≡ [])
+  zip_past xs i past empty gone =
+      let e : V (drop i xs) ≡ [] = ap V gone ∙ empty in
+      (subst (λ (ys : List A). AllZip C ys []) (sym e) tt, λ ns h. zip_end C ns (subst (λ (ys : List A). AllZip C ys ns) e h))

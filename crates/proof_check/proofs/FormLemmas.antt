@@ -45,3 +45,53 @@ module _ (sig : Signature) (js : List Judgment) (scope : ReadingScope) (no_conte
   judgment_read ms ts want w ks e (reads_term r) = absurd cc
   judgment_read ms ts want w ks e (reads_judgment {j = j} r) = (nothing_known ms ts j ks r, (j, refl))
   judgment_read ms ts want w ks e (reads_context r) = absurd cc
+
+-- a form has no other reading than its one
+only_reading : (sig : Signature) (js : List Judgment) (names : Names) (ts : List Token) (i j : JudgmentScheme) → ReadsOnlyAs sig js names ts i → ReadsOnlyAs sig js names ts j → j ≡ i
+only_reading sig js names ts i j a b =
+    let e = a.reading.no_other (0, record { written = a_judgment j; metas = []; knowns = [] }) b.reading.reads in
+    let w : a_judgment j ≡ a_judgment i = ap (λ (answer : ℕ × Said). answer.1.written) e in
+    cc
+
+module _ (sig : Signature) (js : List Judgment) (names : Names) (scope : ReadingScope) (is : scope ≡ settled names) (no_context : AllByRecursion (λ j. j.ctx ≡ None) js) where
+  -- what an answer says that reads as a judgment
+  read_so : (ts : List Token) (w : Written) (ms : List MetaDecl) (ks : List KnownVariable) → HasOneReading sig js scope (want_judgment ∷ []) ts (0, record { written = w; metas = ms; knowns = ks }) →
+      (ms ≡ []) × (ks ≡ []) × ((j : JudgmentScheme) × (w ≡ a_judgment j))
+  read_so ts w ms ks one =
+      let r = one.reads in
+      let wanted : r.want ≡ want_judgment = (let h = r.here in cc) in
+      let fresh : scope.fresh ≡ not_fresh = ap (λ (s : ReadingScope). s.fresh) is in
+      let j = judgment_read sig js scope no_context _ ts r.want w ks wanted r.reads.form in
+      (r.reads.metas.allowed fresh, j.0, j.1)
+
+  reads_only : (ts : List Token) (w : Written) (ms : List MetaDecl) (ks : List KnownVariable) (j : JudgmentScheme) → length ts ≤ 256 → w ≡ a_judgment j → ms ≡ [] → ks ≡ [] →
+      HasOneReading sig js scope (want_judgment ∷ []) ts (0, record { written = w; metas = ms; knowns = ks }) → ReadsOnlyAs sig js names ts j
+  reads_only ts w ms ks j short e m k one =
+      let said : record { written = w; metas = ms; knowns = ks } ≡ record { written = a_judgment j; metas = []; knowns = [] } = ? in
+      record {
+        within = short;
+        reading =
+            subst (λ (s : ReadingScope). HasOneReading sig js s (want_judgment ∷ []) ts (0, record { written = a_judgment j; metas = []; knowns = [] })) is
+            (subst (λ (s : Said). HasOneReading sig js scope (want_judgment ∷ []) ts (0, s)) ? one);
+      }
+
+  -- the one reading is found
+  pub one_found : (ts : List Token) (w : Written) (ms : List MetaDecl) (ks : List KnownVariable) (j : JudgmentScheme) → length ts ≤ 256 → w ≡ a_judgment j →
+      HasOneReading sig js scope (want_judgment ∷ []) ts (0, record { written = w; metas = ms; knowns = ks }) → Finds (ReadsOnlyAs sig js names ts) (Some j)
+  one_found ts w ms ks j short e one =
+      let so = read_so ts w ms ks one in
+      let here = reads_only ts w ms ks j short e so.0 so.1 one in
+      (here, λ b h. only_reading sig js names ts j b here h)
+
+  -- the one reading is always a judgment
+  pub is_judgment : (ts : List Token) (w : Written) (ms : List MetaDecl) (ks : List KnownVariable) → HasOneReading sig js scope (want_judgment ∷ []) ts (0, record { written = w; metas = ms; knowns = ks }) →
+      ((j : JudgmentScheme) → w ≡ a_judgment j → ⊥) → ⊥
+  is_judgment ts w ms ks one none = (let so = read_so ts w ms ks one in none so.2.0 so.2.1)
+
+  pub no_reading : (ts : List Token) → HasNoReading sig js scope (want_judgment ∷ []) ts → Finds (ReadsOnlyAs sig js names ts) None
+  no_reading ts none j h = none _ (subst (λ (s : ReadingScope). ReadsAs sig js s (want_judgment ∷ []) ts (0, record { written = a_judgment j; metas = []; knowns = [] })) (sym is) h.reading.reads)
+
+  pub two_readings : (ts : List Token) (a b : ℕ × Said) → AreFirstTwo sig js scope (want_judgment ∷ []) ts a b → Finds (ReadsOnlyAs sig js names ts) None
+  two_readings ts a b two j h =
+      let one = subst (λ (s : ReadingScope). HasOneReading sig js s (want_judgment ∷ []) ts (0, record { written = a_judgment j; metas = []; knowns = [] })) (sym is) h.reading in
+      two.1.new.0 (one.no_other a two.0.reads ∙ sym (one.no_other b two.1.reads))

@@ -2,3 +2,4 @@ mod FindingLemmas
 mod NumberLemmas
 mod ScopeLemmas
 mod FormLemmas
+mod SpellingLemmas

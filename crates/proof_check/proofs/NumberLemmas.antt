@@ -3,6 +3,8 @@ use Rattle.std.proofs.Common.{◌≡◌, ◌≢◌, ◌<◌, ◌≤◌, ◌+◌,
 use Rattle.std.proofs.lemmas.List.{take_more, take_all, length-map}
 use Rattle.std.proofs.lemmas.Option.{slice_get_read, slice_get-map, slice_get_within}
 use Rattle.std.specs.List.{AllByRecursion}
+use Rattle.rule_schemes.specs.View.{rule}
+use Rattle.rule_schemes.specs.declared.rule.RuleScheme.{RuleScheme}
 use Rattle.proof_check.specs.Finding.{Finds}
 use Rattle.proof_check.specs.Cited.{IsNumberOf}
 
@@ -66,3 +68,8 @@ pub no_name_found : (name : List ℕ) (names : List (List ℕ)) (i : ℕ) → le
     Finds (IsNumberOf name names) None
 no_name_found name names i past before =
     subst (λ ns. Finds (IsNumberOf name ns) None) (map_same names) (none_found (λ n. n) name names i past before)
+
+-- the names of rules are those of the plain ones
+pub rule_names_same : (rules : List RuleScheme) → map (λ r. r.name) (map rule rules) ≡ map (λ r. r.name) rules
+rule_names_same [] = refl
+rule_names_same (r ∷ rules) = ap (λ names. r.name ∷ names) (rule_names_same rules)

@@ -38,3 +38,15 @@ numbered_more P xs i lt here all =
       | inl found ↦ subst (AllNumbered (λ m x. P m) 0) (sym (take_more xs i found.0 lt)) (numbered_push P 0 (take i xs) _ i (omega (arith, length-take i xs)) all here)
       | inr past ↦ absurd (omega (arith, past.0))
     ]
+
+-- numbers of which some property holds up to one place, and behind it no longer: the place is one
+place_same : {A : Type 0} (P : ℕ → Type 0) (n : ℕ) (xs : List A) (count : ℕ) (k : ℕ) → k ≡ n + count → count ≤ length xs → AllNumbered (λ m x. P m) n (take count xs) → (count < length xs → P k → ⊥) →
+    (zs ws : List A) (l : ℕ) → l ≡ n + length zs → xs ≡ zs ++ ws → AllNumbered (λ m x. P m) n zs → AllNumbered (λ m x. P m → ⊥) l ws → length zs ≡ count
+place_same P n xs zero k ek within all stop [] ws l el e there behind = refl
+place_same P n [] (suc count) k ek within all stop zs ws l el e there behind = absurd (omega arith)
+place_same P n (x ∷ xs) (suc count) k ek within all stop [] [] l el e there behind = absurd cc
+place_same P n (x ∷ xs) (suc count) k ek within all stop [] (w ∷ ws) l el e there behind = absurd (behind.0 (subst P (omega (arith, el)) all.0))
+place_same P n xs zero k ek within all stop (z ∷ zs) ws l el e there behind =
+    absurd (stop (omega (arith, ap length e)) (subst P (omega (arith, ek)) there.0))
+place_same P n (x ∷ xs) (suc count) k ek within all stop (z ∷ zs) ws l el e there behind =
+    ap suc (place_same P (suc n) xs count k (omega (arith, ek)) (omega arith) all.1 (λ lt. stop (omega arith)) zs ws l (omega (arith, el)) cc there.1 behind)
