@@ -1,5 +1,5 @@
 -- The one reading of a form as a judgment.
-use Rattle.std.proofs.Common.{◌≡◌, ◌≢◌, ◌<◌, ◌≤◌, ℕ, List, [], ◌∷◌, Some, None, length, map, slice_get, refl, sym, ap, subst, ◌∙◌, arith}
+use Rattle.std.proofs.Common.{◌≡◌, ◌≢◌, ◌<◌, ◌≤◌, ℕ, List, [], ◌∷◌, Option, Some, None, MatchOption, option_map, length, map, slice_get, refl, sym, ap, subst, ◌∙◌, arith}
 use Rattle.std.specs.List.{AllByRecursion}
 use Rattle.binding_terms.specs.Signature.{Signature}
 use Rattle.scheme_terms.specs.Forms.{Names, KnownVariable}
@@ -8,6 +8,8 @@ use Rattle.rule_schemes.specs.Rules.{JudgmentScheme}
 use Rattle.rule_schemes.specs.Reading.{Token, ReadingScope, not_fresh, ReadsJudgment, without_context, with_context}
 use Rattle.rule_schemes.specs.Said.{Want, want_judgment, Written, a_judgment, Said, ReadsWanted, reads_term, reads_judgment, reads_context, ReadsAs, HasOneReading, HasNoReading, AreFirstTwo}
 use Rattle.rule_schemes.specs.declared.rule.Judgment.{Judgment}
+use Rattle.rule_schemes.specs.declared.rule.JScheme.{JScheme}
+use Rattle.rule_schemes.specs.View.{judgment_scheme}
 use Rattle.proof_lexer.specs.declared.token.Kind.{Kind}
 use Rattle.proof_lexer.specs.declared.token.Kind.TheVariants.{Word, Symbol, Punct, Bar, Quoted}
 use Rattle.proof_lexer.specs.declared.token.Token.{Token as LentToken}
@@ -67,12 +69,15 @@ module _ (sig : Signature) (js : List Judgment) (names : Names) (scope : Reading
   reads_only : (ts : List Token) (w : Written) (ms : List MetaDecl) (ks : List KnownVariable) (j : JudgmentScheme) → length ts ≤ 256 → w ≡ a_judgment j → ms ≡ [] → ks ≡ [] →
       HasOneReading sig js scope (want_judgment ∷ []) ts (0, record { written = w; metas = ms; knowns = ks }) → ReadsOnlyAs sig js names ts j
   reads_only ts w ms ks j short e m k one =
-      let said : record { written = w; metas = ms; knowns = ks } ≡ record { written = a_judgment j; metas = []; knowns = [] } = ? in
+      let known : HasOneReading sig js scope (want_judgment ∷ []) ts (0, record { written = w; metas = ms; knowns = [] }) =
+      subst (λ (x : List KnownVariable). HasOneReading sig js scope (want_judgment ∷ []) ts (0, record { written = w; metas = ms; knowns = x })) k one in
+      let new : HasOneReading sig js scope (want_judgment ∷ []) ts (0, record { written = w; metas = []; knowns = [] }) =
+      subst (λ (x : List MetaDecl). HasOneReading sig js scope (want_judgment ∷ []) ts (0, record { written = w; metas = x; knowns = [] })) m known in
+      let said : HasOneReading sig js scope (want_judgment ∷ []) ts (0, record { written = a_judgment j; metas = []; knowns = [] }) =
+      subst (λ (x : Written). HasOneReading sig js scope (want_judgment ∷ []) ts (0, record { written = x; metas = []; knowns = [] })) e new in
       record {
         within = short;
-        reading =
-            subst (λ (s : ReadingScope). HasOneReading sig js s (want_judgment ∷ []) ts (0, record { written = a_judgment j; metas = []; knowns = [] })) is
-            (subst (λ (s : Said). HasOneReading sig js scope (want_judgment ∷ []) ts (0, s)) ? one);
+        reading = subst (λ (s : ReadingScope). HasOneReading sig js s (want_judgment ∷ []) ts (0, record { written = a_judgment j; metas = []; knowns = [] })) is said;
       }
 
   -- the one reading is found
@@ -95,3 +100,10 @@ module _ (sig : Signature) (js : List Judgment) (names : Names) (scope : Reading
   two_readings ts a b two j h =
       let one = subst (λ (s : ReadingScope). HasOneReading sig js s (want_judgment ∷ []) ts (0, record { written = a_judgment j; metas = []; knowns = [] })) (sym is) h.reading in
       two.1.new.0 (one.no_other a two.0.reads ∙ sym (one.no_other b two.1.reads))
+
+  -- what is answered of one reading
+  pub one_answered : (ts : List Token) (w : Written) (ms : List MetaDecl) (ks : List KnownVariable) (r : Option JScheme) → length ts ≤ 256 →
+      HasOneReading sig js scope (want_judgment ∷ []) ts (0, record { written = w; metas = ms; knowns = ks }) →
+      MatchOption r ((j : JudgmentScheme) → w ≡ a_judgment j → ⊥) (λ j. w ≡ a_judgment (judgment_scheme j)) → Finds (ReadsOnlyAs sig js names ts) (option_map judgment_scheme r)
+  one_answered ts w ms ks None short one told = absurd (is_judgment ts w ms ks one told)
+  one_answered ts w ms ks (Some j) short one told = one_found ts w ms ks (judgment_scheme j) short told one

@@ -3,3 +3,4 @@ mod NumberLemmas
 mod ScopeLemmas
 mod FormLemmas
 mod SpellingLemmas
+mod StepLemmas
