@@ -4,3 +4,4 @@ mod ScopeLemmas
 mod FormLemmas
 mod SpellingLemmas
 mod StepLemmas
+mod ProofLemmas

@@ -10,4 +10,4 @@ mod scope;
 mod spelling;
 mod step;
 
-pub use step::step_of;
+pub use proofs::add_proof;

@@ -1,5 +1,5 @@
 // The proofs of a file.
-ghost use Rattle.std.specs.Prelude.{◌≡◌, ◌≤◌, ◌+◌, ◌↔◌, ℕ, suc, IsTrue, IfOk, MatchOption, List, map, length, vec_len};
+ghost use Rattle.std.specs.Prelude.{◌≡◌, ◌≤◌, ◌+◌, ◌↔◌, ℕ, suc, IsTrue, IfOk, MatchOption, List, map, length, drop};
 ghost use Rattle.scheme_terms.specs.View.{names as plain_names};
 ghost use Rattle.rule_schemes.specs.Said.{want_judgment};
 ghost use Rattle.rule_schemes.specs.Statement.{Theorem};
@@ -36,31 +36,32 @@ fn ends_proof(part: Part) -> bool
     }
 }
 
-/// Appends the steps of a proof, whose portions begin the list, and gives the portions behind its `end` line.
-fn add_proof<'a, 'b>(
+/// Appends the steps of a proof whose portions begin at that place, and gives the place behind its `end` line.
+pub fn add_proof(
     alloc: Global,
     sys: &System,
     statement: &Statement,
     scope: &ReadScope,
     mut named: Items<Text>,
-    mut portions: &'a [Portion<'b>],
+    portions: &[Portion<'_>],
+    from: usize,
     steps: &mut Vec<CoreStep>,
-) -> Result<Option<&'a [Portion<'b>]>, NoMemory>
+) -> Result<Option<usize>, NoMemory>
     requires plain { IsPlain sys.now.sig sys.now.judgments (reading_scope scope.now) want_judgment }
     requires settled { reading_scope scope.now ≡ settled (plain_names scope.now.scope) }
+    requires from { from ≤ length portions.now }
     ensures { IfOk result (λ found. MatchOption found
         ((sts : List Theorem) (k : ℕ) (all : List Step) → AreProofSteps (theory sys.now) sts k (plain statement.now)
-            (plain_names scope.now.scope) named None (map plain_portion (map portion_view portions.entry.now)) all → ⊥)
-        (λ behind. (length behind.now ≤ length portions.entry.now)
+            (plain_names scope.now.scope) named None (map plain_portion (map portion_view (drop from portions.now))) all → ⊥)
+        (λ next. (from ≤ next) × (next ≤ length portions.now)
           × ((sts : List Theorem) (k : ℕ) → Adds (map step steps.old.items) (map step steps.new.items)
             (AreProofSteps (theory sys.now) sts k (plain statement.now)
-              (plain_names scope.now.scope) named None (map plain_portion (map portion_view portions.entry.now)))
-            (AreStepsFrom (theory sys.now) sts (suc k) (map plain_portion (map portion_view behind.now)))))) }
+              (plain_names scope.now.scope) named None (map plain_portion (map portion_view (drop from portions.now))))
+            (AreStepsFrom (theory sys.now) sts (suc k) (map plain_portion (map portion_view (drop next portions.now))))))) }
 {
     let mut last = None;
-    while let [portion, rest @ ..] = portions {
-        portions = rest;
-        match portion {
+    for i in from..portions.len() {
+        match &portions[i] {
             Portion::Step {
                 first,
                 names,
@@ -91,7 +92,7 @@ fn add_proof<'a, 'b>(
                 steps.push(CoreStep::End {
                     line: last.unwrap_or(first.line),
                 })?;
-                return Ok(Some(portions));
+                return Ok(Some(i + 1));
             }
             _ => return Ok(None),
         }
