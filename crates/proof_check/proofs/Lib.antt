@@ -5,3 +5,4 @@ mod FormLemmas
 mod SpellingLemmas
 mod StepLemmas
 mod ProofLemmas
+mod FileLemmas

@@ -32,6 +32,20 @@ EndsProof parts.Theorem = Unit {0}
 EndsProof parts.Lemma = Unit {0}
 EndsProof _ = ⊥
 
+-- a portion that stands outside of proofs
+abbrev pub HoldsNoProof : PlainPortion → Type 0
+HoldsNoProof (terminals first items) = Unit {0}
+HoldsNoProof (syntax_word first) = Unit {0}
+HoldsNoProof (category name productions) = Unit {0}
+HoldsNoProof (judgment_of first name form assumes) = Unit {0}
+HoldsNoProof (rule_of premises name conclusion) = Unit {0}
+HoldsNoProof _ = ⊥
+
+-- the steps begin the proof of the statement with this number, in its own scope, and what follows is so for that statement and scope
+abbrev pub BeginsProof : List Theorem → (theorem : ℕ) → (Theorem → Names → List Step → Type 0) → List Step → Type 0
+BeginsProof sts k Follows steps =
+    (st : Theorem) × (scope : Names) × (rest : List Step) × (slice_get sts k ≡ Some st) × IsProofScope st scope × (steps ≡ begin_theorem k ∷ rest) × Follows st scope rest
+
 -- The steps from a portion on. Outside of proofs, where so many theorems stand before: each theorem begins the proof of the statement with
 -- its number. Within a proof, with the names in scope and the line of the last step, if any: each step stands for a core step, up to the
 -- `end` line, which ends the proof on the line of the last step, or on its own where there is none.
@@ -39,14 +53,8 @@ abbrev mutual
   pub AreStepsFrom : Theory → List Theorem → (theorem : ℕ) → List PlainPortion → List Step → Type 0
   AreStepsFrom th sts k [] steps = steps ≡ []
   AreStepsFrom th sts k (theorem_of first joined kind name assumes inputs outputs targets ∷ portions) steps =
-      (st : Theorem) × (scope : Names) × (rest : List Step) × (slice_get sts k ≡ Some st) × IsProofScope st scope
-      × (steps ≡ begin_theorem k ∷ rest) × AreProofSteps th sts k st scope (given_names inputs) None portions rest
-  AreStepsFrom th sts k (terminals first items ∷ portions) steps = AreStepsFrom th sts k portions steps
-  AreStepsFrom th sts k (syntax_word first ∷ portions) steps = AreStepsFrom th sts k portions steps
-  AreStepsFrom th sts k (category name productions ∷ portions) steps = AreStepsFrom th sts k portions steps
-  AreStepsFrom th sts k (judgment_of first name form assumes ∷ portions) steps = AreStepsFrom th sts k portions steps
-  AreStepsFrom th sts k (rule_of premises name conclusion ∷ portions) steps = AreStepsFrom th sts k portions steps
-  AreStepsFrom th sts k (_ ∷ portions) steps = ⊥
+      BeginsProof sts k (λ st scope rest. AreProofSteps th sts k st scope (given_names inputs) None portions rest) steps
+  AreStepsFrom th sts k (portion ∷ portions) steps = HoldsNoProof portion × AreStepsFrom th sts k portions steps
 
   pub AreProofSteps : Theory → List Theorem → (theorem : ℕ) → Theorem → Names → (named : List (List ℕ)) → (last : Option ℕ) → List PlainPortion → List Step → Type 0
   AreProofSteps th sts k st scope named last [] steps = ⊥

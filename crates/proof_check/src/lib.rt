@@ -10,4 +10,4 @@ mod scope;
 mod spelling;
 mod step;
 
-pub use proofs::add_proof;
+pub use proofs::steps_of;

@@ -1,5 +1,6 @@
 // The proofs of a file.
-ghost use Rattle.std.specs.Prelude.{◌≡◌, ◌≤◌, ◌+◌, ◌↔◌, ℕ, suc, IsTrue, IfOk, MatchOption, List, map, length, drop};
+ghost use Rattle.std.specs.Prelude.{◌≡◌, ◌<◌, ◌≤◌, ◌↔◌, ℕ, suc, IsTrue, IfOk, MatchOption, List, map, length, drop};
+ghost use Rattle.scheme_terms.specs.Forms.{Names};
 ghost use Rattle.scheme_terms.specs.View.{names as plain_names};
 ghost use Rattle.rule_schemes.specs.Said.{want_judgment};
 ghost use Rattle.rule_schemes.specs.Statement.{Theorem};
@@ -14,7 +15,7 @@ ghost use Rattle.core_proofs.specs.View.{step};
 ghost use Rattle.proof_check.specs.Finding.{Adds};
 ghost use Rattle.proof_check.specs.Plain.{ArePlainStatements};
 ghost use Rattle.proof_check.specs.Cited.{given_names};
-ghost use Rattle.proof_check.specs.Steps.{EndsProof, AreStepsFrom, AreProofSteps, AreStepsOf};
+ghost use Rattle.proof_check.specs.Steps.{EndsProof, HoldsNoProof, BeginsProof, AreStepsFrom, AreProofSteps, AreStepsOf};
 
 use crate::names::{given, number};
 use crate::scope::{proof_scope, settled};
@@ -23,7 +24,7 @@ use binding_terms::{NoMemory, Text};
 use core_proofs::CoreStep;
 use outline_reader::{InputText, Outline, Part, Portion};
 use rule_schemes::{ReadScope, Statement, System, TheoremId};
-use sqlite_items::Items;
+use sqlite_items::{Items, at};
 use std::alloc::Global;
 
 fn ends_proof(part: Part) -> bool
@@ -37,7 +38,7 @@ fn ends_proof(part: Part) -> bool
 }
 
 /// Appends the steps of a proof whose portions begin at that place, and gives the place behind its `end` line.
-pub fn add_proof(
+fn add_proof(
     alloc: Global,
     sys: &System,
     statement: &Statement,
@@ -98,4 +99,130 @@ pub fn add_proof(
         }
     }
     Ok(None)
+}
+
+/// Appends the steps of the theorem with that number, whose proof begins at that place, and gives the place behind its `end` line.
+fn add_theorem(
+    alloc: Global,
+    sys: &System,
+    statements: &[Statement],
+    theorem: usize,
+    inputs: &[InputText<'_>],
+    portions: &[Portion<'_>],
+    from: usize,
+    steps: &mut Vec<CoreStep>,
+) -> Result<Option<usize>, NoMemory>
+    requires plain { ArePlainStatements (theory sys.now) (map plain statements.now) }
+    requires from { from ≤ length portions.now }
+    ensures { IfOk result (λ found. let follows = λ (st : Theorem) (scope : Names). AreProofSteps (theory sys.now) (map plain statements.now) theorem st scope
+          (given_names (map plain_input (map input_view inputs.now))) None (map plain_portion (map portion_view (drop from portions.now))) in
+        MatchOption found
+        ((all : List Step) → BeginsProof (map plain statements.now) theorem follows all → ⊥)
+        (λ next. (from ≤ next) × (next ≤ length portions.now)
+          × Adds (map step steps.old.items) (map step steps.new.items) (BeginsProof (map plain statements.now) theorem follows)
+            (AreStepsFrom (theory sys.now) (map plain statements.now) (suc theorem) (map plain_portion (map portion_view (drop next portions.now)))))) }
+{
+    let statement = match at(statements, theorem) {
+        Some(statement) => statement,
+        None => return Ok(None),
+    };
+    let scope = match proof_scope(alloc, statement)? {
+        Some(scope) => settled(alloc, scope),
+        None => return Ok(None),
+    };
+    let named = given(alloc, inputs)?;
+    steps.push(CoreStep::Begin(TheoremId(number(theorem)?)))?;
+    match add_proof(
+        alloc, sys, statement, &scope, named, portions, from, steps,
+    )? {
+        Some(next) => Ok(Some(next)),
+        None => Ok(None),
+    }
+}
+
+fn holds_no_proof(portion: &Portion<'_>) -> bool
+    ensures { IsTrue result ↔ HoldsNoProof (plain_portion (portion_view portion.now)) }
+{
+    match portion {
+        Portion::Terminals { .. } => true,
+        Portion::Syntax { .. } => true,
+        Portion::Category { .. } => true,
+        Portion::Judgment { .. } => true,
+        Portion::Rule { .. } => true,
+        _ => false,
+    }
+}
+
+/// Appends the steps of the part of the file at that place, where so many theorems stand before, and gives the place behind it with the
+/// number of theorems up to there.
+fn add_part(
+    alloc: Global,
+    sys: &System,
+    statements: &[Statement],
+    theorem: usize,
+    portions: &[Portion<'_>],
+    at: usize,
+    steps: &mut Vec<CoreStep>,
+) -> Result<Option<(usize, usize)>, NoMemory>
+    requires plain { ArePlainStatements (theory sys.now) (map plain statements.now) }
+    requires at { at < length portions.now }
+    requires theorem { theorem ≤ at }
+    ensures { IfOk result (λ found. MatchOption found
+        ((all : List Step) → AreStepsFrom (theory sys.now) (map plain statements.now) theorem (map plain_portion (map portion_view (drop at portions.now))) all → ⊥)
+        (λ next. (at < next.0) × (next.0 ≤ length portions.now) × (next.1 ≤ next.0)
+          × Adds (map step steps.old.items) (map step steps.new.items)
+            (AreStepsFrom (theory sys.now) (map plain statements.now) theorem (map plain_portion (map portion_view (drop at portions.now))))
+            (AreStepsFrom (theory sys.now) (map plain statements.now) next.1 (map plain_portion (map portion_view (drop next.0 portions.now)))))) }
+{
+    match &portions[at] {
+        Portion::Theorem { inputs, .. } => match add_theorem(
+            alloc,
+            sys,
+            statements,
+            theorem,
+            inputs.as_slice(),
+            portions,
+            at + 1,
+            steps,
+        )? {
+            Some(next) => Ok(Some((next, theorem + 1))),
+            None => Ok(None),
+        },
+        other => {
+            if holds_no_proof(other) {
+                return Ok(Some((at + 1, theorem)));
+            }
+            Ok(None)
+        }
+    }
+}
+
+/// The core steps for which the proofs of a file stand, over its system and its statements. None where they stand for none: so far only
+/// steps by rule do.
+pub fn steps_of(
+    alloc: Global,
+    outline: &Outline<'_>,
+    sys: &System,
+    statements: &[Statement],
+) -> Result<Option<Vec<CoreStep>>, NoMemory>
+    requires { ArePlainStatements (theory sys.now) (map plain statements.now) }
+    ensures { IfOk result (λ found. MatchOption found
+        ((steps : List Step) → AreStepsOf (outlined outline.now) (theory sys.now) (map plain statements.now) steps → ⊥)
+        (λ found. AreStepsOf (outlined outline.now) (theory sys.now) (map plain statements.now) (map step found.items)
+          × ((steps : List Step) → AreStepsOf (outlined outline.now) (theory sys.now) (map plain statements.now) steps → steps ≡ map step found.items))) }
+{
+    let portions = outline.parts.as_slice();
+    let mut steps = Vec::new(alloc);
+    let mut theorem = 0;
+    let mut at = 0;
+    while at < portions.len() {
+        match add_part(alloc, sys, statements, theorem, portions, at, &mut steps)? {
+            Some((next, count)) => {
+                at = next;
+                theorem = count;
+            }
+            None => return Ok(None),
+        }
+    }
+    Ok(Some(steps))
 }

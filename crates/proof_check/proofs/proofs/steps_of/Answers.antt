@@ -1,0 +1,31 @@
+use Rattle.std.proofs.Common.{◌≡◌, List, [], Some, None, map, drop, refl, sym, ap, subst, ◌∙◌}
+use Rattle.std.proofs.lemmas.List.{drop_all}
+use Rattle.rule_schemes.specs.View.{theory, statement}
+use Rattle.outline_reader.specs.Plain.{PlainPortion, outlined}
+use Rattle.core_proofs.specs.Step.{Step}
+use Rattle.core_proofs.specs.View.{step}
+use Rattle.proof_check.specs.Finding.{Finds}
+use Rattle.proof_check.specs.Steps.{AreStepsFrom}
+use Rattle.proof_check.proofs.FindingLemmas.{finds_all, finds_none}
+use Rattle.proof_check.proofs.ProofLemmas.{seen}
+use Rattle.proof_check.proofs.FileLemmas.{seen_outlined}
+use Rattle.proof_check.proofs.proofs.steps_of.Goals as goal
+
+pub returns-in-None : goal.returns-in-None
+returns-in-None c =
+    let th = theory c.args.sys.now in
+    let sts = map statement c.args.statements.now in
+    let e : seen c.as_slice-portions.result.now ≡ outlined c.args.outline.now = ap seen c.as_slice-portions.ensures.value ∙ sym (seen_outlined c.args.outline.now.parts.items) in
+    let f = rw c.in-None.is at c.in_ok-next.ensures in
+    subst (λ (ps : List PlainPortion). Finds (AreStepsFrom th sts 0 ps) None) e (finds_none _ _ _ c.loop-at.invariant.begins f)
+
+pub returns : goal.returns
+returns c =
+    let th = theory c.args.sys.now in
+    let sts = map statement c.args.statements.now in
+    let e : seen c.as_slice-portions.result.now ≡ outlined c.args.outline.now = ap seen c.as_slice-portions.ensures.value ∙ sym (seen_outlined c.args.outline.now.parts.items) in
+    let past : seen (drop c.loop-at.at c.as_slice-portions.result.now) ≡ [] = ap seen (drop_all c.loop-at.at c.as_slice-portions.result.now c.loop-at-test.false) in
+    subst (λ (ps : List PlainPortion). Finds (AreStepsFrom th sts 0 ps) (Some (map step c.loop-at.steps.items))) e
+    (finds_all _ _ _ c.loop-at.invariant.begins
+    (subst (λ (ps : List PlainPortion). AreStepsFrom th sts c.loop-at.theorem ps []) (sym past) refl)
+    (λ rest h. subst (λ (ps : List PlainPortion). AreStepsFrom th sts c.loop-at.theorem ps rest) past h))
