@@ -1,6 +1,6 @@
 -- The core steps for which the proofs of a file stand. To be held against docs/notation.md, 'Outline' and 'Steps'. So far a step stands for
 -- a core step only where it goes by a rule: for all other steps the relation has no case yet.
-use Rattle.std.specs.Prelude.{◌≡◌, ℕ, suc, List, [], ◌∷◌, ◌++◌, map, Option, Some, None, slice_get, unwrap_or}
+use Rattle.std.specs.Prelude.{◌≡◌, ℕ, suc, List, [], ◌∷◌, ◌++◌, length, map, Option, Some, None, slice_get, unwrap_or}
 use Rattle.std.specs.List.{AllZip}
 use Rattle.scheme_terms.specs.Forms.{Names}
 use Rattle.rule_schemes.specs.Rules.{JudgmentScheme, Theory}
@@ -47,11 +47,11 @@ BeginsProof sts k Follows steps =
     (st : Theorem) × (scope : Names) × (rest : List Step) × (slice_get sts k ≡ Some st) × IsProofScope st scope × (steps ≡ begin_theorem k ∷ rest) × Follows st scope rest
 
 -- The steps from a portion on. Outside of proofs, where so many theorems stand before: each theorem begins the proof of the statement with
--- its number. Within a proof, with the names in scope and the line of the last step, if any: each step stands for a core step, up to the
+-- its number, and at the end no statement is left. Within a proof, with the names in scope and the line of the last step, if any: each step stands for a core step, up to the
 -- `end` line, which ends the proof on the line of the last step, or on its own where there is none.
 abbrev mutual
   pub AreStepsFrom : Theory → List Theorem → (theorem : ℕ) → List PlainPortion → List Step → Type 0
-  AreStepsFrom th sts k [] steps = steps ≡ []
+  AreStepsFrom th sts k [] steps = (k ≡ length sts) × (steps ≡ [])
   AreStepsFrom th sts k (theorem_of first joined kind name assumes inputs outputs targets ∷ portions) steps =
       BeginsProof sts k (λ st scope rest. AreProofSteps th sts k st scope (given_names inputs) None portions rest) steps
   AreStepsFrom th sts k (portion ∷ portions) steps = HoldsNoProof portion × AreStepsFrom th sts k portions steps

@@ -197,8 +197,9 @@ fn add_part(
     }
 }
 
-/// The core steps for which the proofs of a file stand, over its system and its statements. None where they stand for none: so far only
-/// steps by rule do.
+/// The core steps for which the proofs of a file stand, over its system and its statements ("Steps" of docs/notation.md). None where they
+/// stand for none: where a step does not go by a rule, its form has not one reading, a name is not in scope or taken, or there are not as
+/// many statements as theorems.
 pub fn steps_of(
     alloc: Global,
     outline: &Outline<'_>,
@@ -223,6 +224,9 @@ pub fn steps_of(
             }
             None => return Ok(None),
         }
+    }
+    if theorem != statements.len() {
+        return Ok(None);
     }
     Ok(Some(steps))
 }
