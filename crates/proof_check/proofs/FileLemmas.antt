@@ -1,5 +1,5 @@
 -- The steps of a file, part by part.
-use Rattle.std.proofs.Common.{◌≡◌, ◌≢◌, ◌<◌, ◌+◌, ℕ, suc, List, [], ◌∷◌, ◌++◌, Option, Some, None, Bor, length, map, option_map, slice_get, refl, sym, ap, subst, ◌∙◌}
+use Rattle.std.proofs.Common.{◌≡◌, ◌≢◌, ℕ, List, [], ◌∷◌, ◌++◌, Option, Some, None, Bor, map, option_map, slice_get, refl, sym, ap, subst, ◌∙◌}
 use Rattle.std.specs.List.{AllByRecursion}
 use Rattle.std.specs.Option.{option_copied}
 use Rattle.std.proofs.lemmas.Option.{slice_get-map}
@@ -22,7 +22,6 @@ use Rattle.outline_reader.specs.Plain.{PlainPortion, terminals, syntax_word, cat
 use Rattle.proof_check.specs.Finding.{Finds, Begins}
 use Rattle.proof_check.specs.Plain.{ArePlainStatements}
 use Rattle.proof_check.specs.Steps.{HoldsNoProof, BeginsProof, AreStepsFrom, AreProofSteps}
-use Rattle.proof_check.proofs.FindingLemmas.{begins_at_start}
 use Rattle.proof_check.proofs.NumberLemmas.{all_at}
 use Rattle.proof_check.proofs.ProofLemmas.{seen}
 
@@ -59,10 +58,10 @@ pub begin_turn : (sts : List Theorem) (k : ℕ) (Follows : Theorem → Names →
 begin_turn sts k Follows st scope here f = record {
   sound = λ rest h. (st, scope, rest, here, f.0, refl, h);
   complete = λ all h.
-    let found : Some h.0 ≡ Some st = sym h.3 ∙ here in
-    let same : h.0 ≡ st = cc in
-    let its : h.1 ≡ scope = f.1 h.1 (subst (λ (s : Theorem). IsProofScope s h.1) same h.4) in
-    (h.2, h.5, subst (λ (s : Theorem). Follows s scope h.2) same (subst (λ (n : Names). Follows h.0 n h.2) its h.6));
+      let found : Some h.0 ≡ Some st = sym h.3 ∙ here in
+      let same : h.0 ≡ st = cc in
+      let its : h.1 ≡ scope = f.1 h.1 (subst (λ (s : Theorem). IsProofScope s h.1) same h.4) in
+      (h.2, h.5, subst (λ (s : Theorem). Follows s scope h.2) same (subst (λ (n : Names). Follows h.0 n h.2) its h.6));
 }
 
 pub no_statement : (sts : List Theorem) (k : ℕ) (Follows : Theorem → Names → List Step → Type 0) → slice_get sts k ≡ None → (all : List Step) → BeginsProof sts k Follows all → ⊥

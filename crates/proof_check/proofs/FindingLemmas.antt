@@ -1,8 +1,8 @@
 -- Lists that begin with what was found.
-use Rattle.std.proofs.Common.{◌≡◌, ◌<◌, ◌+◌, ℕ, List, [], ◌∷◌, ◌++◌, Some, None, ◌≤◌, length, get_or, drop, map, refl, sym, ap, subst, ◌∙◌, append_assoc}
+use Rattle.std.proofs.Common.{◌≡◌, ◌<◌, ◌+◌, ℕ, List, [], ◌∷◌, ◌++◌, Some, None, ◌≤◌, length, get_or, drop, refl, sym, ap, subst, ◌∙◌, append_assoc}
 use Rattle.std.proofs.lemmas.List.{append-nil, drop_more}
 use Rattle.std.specs.List.{AllZip}
-use Rattle.proof_check.specs.Finding.{Finds, Begins, Adds}
+use Rattle.proof_check.specs.Finding.{Finds, Begins}
 
 pub begins_at_start : {A : Type 0} (P : List A → Type 0) → Begins P P []
 begins_at_start P = record { sound = λ rest h. h; complete = λ all h. (all, refl, h) }
@@ -11,9 +11,9 @@ pub begins_then : {A : Type 0} (P Q R : List A → Type 0) (f g : List A) → Be
 begins_then P Q R f g a b = record {
   sound = λ rest h. subst P (sym (append_assoc f g rest)) (a.sound (g ++ rest) (b.sound rest h));
   complete = λ all h.
-    let c = a.complete all h in
-    let d = b.complete c.0 c.2 in
-    (d.0, c.1 ∙ ap (λ r. f ++ r) d.1 ∙ sym (append_assoc f g d.0), d.2);
+      let c = a.complete all h in
+      let d = b.complete c.0 c.2 in
+      (d.0, c.1 ∙ ap (λ r. f ++ r) d.1 ∙ sym (append_assoc f g d.0), d.2);
 }
 
 -- all is found where nothing can follow

@@ -29,11 +29,13 @@ module _ (th : Theory) (sts : List Theorem) (k : ℕ) (st : Theorem) (scope : Na
     step_turn name step f = record {
       sound = λ rest h. (name, step, rest, f.0, refl, h);
       complete = λ all h.
-        let e = f.1 (h.0, h.1) h.3 in
-        let same_name : h.0 ≡ name = ap (λ (p : List ℕ × Step). p.0) e in
-        let same_step : h.1 ≡ step = ap (λ (p : List ℕ × Step). p.1) e in
-        (h.2, h.4 ∙ ap (λ (s : Step). s ∷ h.2) same_step,
-         subst (λ (n : List ℕ). AreProofSteps th sts k st scope (named ++ n ∷ []) (Some first.line) portions h.2) same_name h.5);
+          let e = f.1 (h.0, h.1) h.3 in
+          let same_name : h.0 ≡ name = ap (λ (p : List ℕ × Step). p.0) e in
+          let same_step : h.1 ≡ step = ap (λ (p : List ℕ × Step). p.1) e in (
+            h.2,
+            h.4 ∙ ap (λ (s : Step). s ∷ h.2) same_step,
+            subst (λ (n : List ℕ). AreProofSteps th sts k st scope (named ++ n ∷ []) (Some first.line) portions h.2) same_name h.5,
+          );
     }
 
     pub step_stop : Finds (λ (made : List ℕ × Step). StandsFor th st scope named first names forms why made.0 made.1) None →

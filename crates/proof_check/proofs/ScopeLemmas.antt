@@ -1,5 +1,5 @@
 -- Where the names of the inputs end among the names of a statement.
-use Rattle.std.proofs.Common.{◌≡◌, ◌≢◌, ◌↔◌, ◌<◌, ◌≤◌, ◌+◌, ℕ, zero, suc, true, false, IsTrue, List, [], Some, None, ◌∷◌, ◌++◌, length, take, drop, refl, sym, ap, subst, ◌∙◌, inl, inr, ◌⊎◌, add-one, arith}
+use Rattle.std.proofs.Common.{◌≡◌, ◌↔◌, ◌<◌, ◌≤◌, ◌+◌, ℕ, zero, suc, true, false, IsTrue, List, [], Some, None, ◌∷◌, ◌++◌, length, take, drop, refl, sym, ap, subst, ◌∙◌, inl, inr, add-one, arith}
 use Rattle.std.proofs.lemmas.List.{take_more, length-take, take-append-drop}
 use Rattle.std.proofs.Math.Seq.{take-append_seam, drop-append_seam}
 use Rattle.std.proofs.lemmas.Option.{slice_get_cases}
@@ -23,9 +23,10 @@ pub numbered_left : {A : Type 0} (P : ℕ → Type 0) (xs : List A) (i : ℕ) (W
     AllNumbered (λ m x. P m) (i + 1) (drop (i + 1) xs) ↔ W
 numbered_left P xs i W lt here h =
     let n = next xs i lt in
-    let k : AllNumbered (λ m x. P m) i (n.0 ∷ drop (i + 1) xs) ↔ W = subst (λ ys. AllNumbered (λ m x. P m) i ys ↔ W) n.1 h in
-    (λ all. k.0 (here, subst (λ j. AllNumbered (λ m x. P m) j (drop (i + 1) xs)) (add-one i) all),
-     λ w. subst (λ j. AllNumbered (λ m x. P m) j (drop (i + 1) xs)) (sym (add-one i)) (k.1 w).1)
+    let k : AllNumbered (λ m x. P m) i (n.0 ∷ drop (i + 1) xs) ↔ W = subst (λ ys. AllNumbered (λ m x. P m) i ys ↔ W) n.1 h in (
+      λ all. k.0 (here, subst (λ j. AllNumbered (λ m x. P m) j (drop (i + 1) xs)) (add-one i) all),
+      λ w. subst (λ j. AllNumbered (λ m x. P m) j (drop (i + 1) xs)) (sym (add-one i)) (k.1 w).1,
+    )
 
 pub numbered_fails : {A : Type 0} (P : ℕ → Type 0) (xs : List A) (i : ℕ) (W : Type 0) → i < length xs → (P i → ⊥) → (AllNumbered (λ m x. P m) i (drop i xs) ↔ W) →
     IsTrue false ↔ W
@@ -77,16 +78,17 @@ module _ (st : Theorem) (count : ℕ) (within : count ≤ length st.scope.metas)
 
   pub scope_found : AllNumbered (λ m x. IsOfInputs st m → ⊥) count (drop count st.scope.metas) → Finds (IsProofScope st) (Some (made st.scope.root (take count st.scope.metas) []))
   scope_found rest =
-      let long : length (take count st.scope.metas) ≡ count = omega (arith, length-take count st.scope.metas) in
-      (record {
-        root = refl;
-        knowns = refl;
-        goal_names = drop count st.scope.metas;
-        split = sym (take-append-drop count st.scope.metas);
-        of_inputs = all;
-        further = subst (λ n. AllNumbered (λ m (x : MetaDecl). IsOfInputs st m → ⊥) n (drop count st.scope.metas)) (sym long) rest;
-      },
-      λ other h.
-        let e : other.metas ≡ take count st.scope.metas =
-        sym (take-append_seam other.metas h.goal_names) ∙ ap (take (length other.metas)) (sym h.split) ∙ ap (λ n. take n st.scope.metas) (ends_there other h) in
-        ap (λ r. made r other.metas other.knowns) h.root ∙ ap (λ ms. made st.scope.root ms other.knowns) e ∙ ap (made st.scope.root (take count st.scope.metas)) h.knowns)
+      let long : length (take count st.scope.metas) ≡ count = omega (arith, length-take count st.scope.metas) in (
+        record {
+          root = refl;
+          knowns = refl;
+          goal_names = drop count st.scope.metas;
+          split = sym (take-append-drop count st.scope.metas);
+          of_inputs = all;
+          further = subst (λ n. AllNumbered (λ m (x : MetaDecl). IsOfInputs st m → ⊥) n (drop count st.scope.metas)) (sym long) rest;
+        },
+        λ other h.
+            let e : other.metas ≡ take count st.scope.metas =
+            sym (take-append_seam other.metas h.goal_names) ∙ ap (take (length other.metas)) (sym h.split) ∙ ap (λ n. take n st.scope.metas) (ends_there other h) in
+            ap (λ r. made r other.metas other.knowns) h.root ∙ ap (λ ms. made st.scope.root ms other.knowns) e ∙ ap (made st.scope.root (take count st.scope.metas)) h.knowns,
+      )

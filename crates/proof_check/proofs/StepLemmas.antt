@@ -80,10 +80,10 @@ module _ (th : Theory) (st : Theorem) (scope : Names) (named : List (List ℕ)) 
   step_found n j s f g = (
     record { form = j; says = f.0; justified = g.0 },
     λ b h.
-      let e = f.1 (b.0, h.form) h.says in
-      let name : b.0 ≡ n = ap (λ (p : List ℕ × JudgmentScheme). p.0) e in
-      let form : h.form ≡ j = ap (λ (p : List ℕ × JudgmentScheme). p.1) e in
-      ap (λ (x : List ℕ). (x, b.1)) name ∙ ap (λ (y : Step). (n, y)) (g.1 b.1 (subst (λ (x : JudgmentScheme). IsStepOf th named first why x b.1) form h.justified)),
+        let e = f.1 (b.0, h.form) h.says in
+        let name : b.0 ≡ n = ap (λ (p : List ℕ × JudgmentScheme). p.0) e in
+        let form : h.form ≡ j = ap (λ (p : List ℕ × JudgmentScheme). p.1) e in
+        ap (λ (x : List ℕ). (x, b.1)) name ∙ ap (λ (y : Step). (n, y)) (g.1 b.1 (subst (λ (x : JudgmentScheme). IsStepOf th named first why x b.1) form h.justified)),
   )
 
   pub not_justified : (n : List ℕ) (j : JudgmentScheme) → Finds (λ (said : List ℕ × JudgmentScheme). Says th st scope named names forms said.0 said.1) (Some (n, j)) →

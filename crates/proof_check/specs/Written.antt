@@ -1,7 +1,6 @@
 -- What a step says: the name that it gives, and its form. To be held against docs/notation.md, 'Readings' and 'Steps'.
 use Rattle.std.specs.Prelude.{◌≡◌, ℕ, List, [], ◌∷◌, map}
 use Rattle.binding_terms.specs.Numbered.{AllNumbered}
-use Rattle.binding_terms.specs.Signature.{Signature}
 use Rattle.scheme_terms.specs.Forms.{Names}
 use Rattle.rule_schemes.specs.Rules.{JudgmentScheme, Theory}
 use Rattle.rule_schemes.specs.Statement.{Theorem, OccursInJudgment, IsOfInputs}

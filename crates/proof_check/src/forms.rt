@@ -101,7 +101,14 @@ pub fn read_form(
     ensures { IfOk result (λ found. Finds
         (IsFormOf (theory sys.now) (names scope.now.scope) (map token_view tokens.now)) (option_map judgment_scheme found)) }
 {
-    let reading = read(alloc, sys.sig(), sys.judgments(), scope, Want::Judgment, tokens)?;
+    let reading = read(
+        alloc,
+        sys.sig(),
+        sys.judgments(),
+        scope,
+        Want::Judgment,
+        tokens,
+    )?;
     match reading {
         Reading::One(form, _, _) => Ok(judgment_in(form)),
         Reading::NoReading => Ok(None),

@@ -102,7 +102,10 @@ pub fn given(alloc: Global, inputs: &[InputText<'_>]) -> Result<Items<Text>, NoM
     let mut named = Items::new(alloc);
     for input in inputs {
         match input {
-            InputText::Given(labelled) => named.push(text_of(alloc, labelled.name.text.as_bytes())?)?,
+            InputText::Given(labelled) => named.push(text_of(
+                alloc,
+                labelled.name.text.as_bytes(),
+            )?)?,
             InputText::Syntax(_) => {}
         }
     }

@@ -53,12 +53,12 @@ fn add_proof(
     requires from { from ≤ length portions.now }
     ensures { IfOk result (λ found. MatchOption found
         ((sts : List Theorem) (k : ℕ) (all : List Step) → AreProofSteps (theory sys.now) sts k (plain statement.now)
-            (plain_names scope.now.scope) named None (map plain_portion (map portion_view (drop from portions.now))) all → ⊥)
+        (plain_names scope.now.scope) named None (map plain_portion (map portion_view (drop from portions.now))) all → ⊥)
         (λ next. (from ≤ next) × (next ≤ length portions.now)
-          × ((sts : List Theorem) (k : ℕ) → Adds (map step steps.old.items) (map step steps.new.items)
-            (AreProofSteps (theory sys.now) sts k (plain statement.now)
-              (plain_names scope.now.scope) named None (map plain_portion (map portion_view (drop from portions.now))))
-            (AreStepsFrom (theory sys.now) sts (suc k) (map plain_portion (map portion_view (drop next portions.now))))))) }
+        × ((sts : List Theorem) (k : ℕ) → Adds (map step steps.old.items) (map step steps.new.items)
+        (AreProofSteps (theory sys.now) sts k (plain statement.now)
+        (plain_names scope.now.scope) named None (map plain_portion (map portion_view (drop from portions.now))))
+        (AreStepsFrom (theory sys.now) sts (suc k) (map plain_portion (map portion_view (drop next portions.now))))))) }
 {
     let mut last = None;
     for i in from..portions.len() {
@@ -115,12 +115,12 @@ fn add_theorem(
     requires plain { ArePlainStatements (theory sys.now) (map plain statements.now) }
     requires from { from ≤ length portions.now }
     ensures { IfOk result (λ found. let follows = λ (st : Theorem) (scope : Names). AreProofSteps (theory sys.now) (map plain statements.now) theorem st scope
-          (given_names (map plain_input (map input_view inputs.now))) None (map plain_portion (map portion_view (drop from portions.now))) in
+        (given_names (map plain_input (map input_view inputs.now))) None (map plain_portion (map portion_view (drop from portions.now))) in
         MatchOption found
         ((all : List Step) → BeginsProof (map plain statements.now) theorem follows all → ⊥)
         (λ next. (from ≤ next) × (next ≤ length portions.now)
-          × Adds (map step steps.old.items) (map step steps.new.items) (BeginsProof (map plain statements.now) theorem follows)
-            (AreStepsFrom (theory sys.now) (map plain statements.now) (suc theorem) (map plain_portion (map portion_view (drop next portions.now)))))) }
+        × Adds (map step steps.old.items) (map step steps.new.items) (BeginsProof (map plain statements.now) theorem follows)
+        (AreStepsFrom (theory sys.now) (map plain statements.now) (suc theorem) (map plain_portion (map portion_view (drop next portions.now)))))) }
 {
     let statement = match at(statements, theorem) {
         Some(statement) => statement,
@@ -132,9 +132,7 @@ fn add_theorem(
     };
     let named = given(alloc, inputs)?;
     steps.push(CoreStep::Begin(TheoremId(number(theorem)?)))?;
-    match add_proof(
-        alloc, sys, statement, &scope, named, portions, from, steps,
-    )? {
+    match add_proof(alloc, sys, statement, &scope, named, portions, from, steps)? {
         Some(next) => Ok(Some(next)),
         None => Ok(None),
     }
@@ -170,9 +168,9 @@ fn add_part(
     ensures { IfOk result (λ found. MatchOption found
         ((all : List Step) → AreStepsFrom (theory sys.now) (map plain statements.now) theorem (map plain_portion (map portion_view (drop at portions.now))) all → ⊥)
         (λ next. (at < next.0) × (next.0 ≤ length portions.now) × (next.1 ≤ next.0)
-          × Adds (map step steps.old.items) (map step steps.new.items)
-            (AreStepsFrom (theory sys.now) (map plain statements.now) theorem (map plain_portion (map portion_view (drop at portions.now))))
-            (AreStepsFrom (theory sys.now) (map plain statements.now) next.1 (map plain_portion (map portion_view (drop next.0 portions.now)))))) }
+        × Adds (map step steps.old.items) (map step steps.new.items)
+        (AreStepsFrom (theory sys.now) (map plain statements.now) theorem (map plain_portion (map portion_view (drop at portions.now))))
+        (AreStepsFrom (theory sys.now) (map plain statements.now) next.1 (map plain_portion (map portion_view (drop next.0 portions.now)))))) }
 {
     match &portions[at] {
         Portion::Theorem { inputs, .. } => match add_theorem(
@@ -210,7 +208,7 @@ pub fn steps_of(
     ensures { IfOk result (λ found. MatchOption found
         ((steps : List Step) → AreStepsOf (outlined outline.now) (theory sys.now) (map plain statements.now) steps → ⊥)
         (λ found. AreStepsOf (outlined outline.now) (theory sys.now) (map plain statements.now) (map step found.items)
-          × ((steps : List Step) → AreStepsOf (outlined outline.now) (theory sys.now) (map plain statements.now) steps → steps ≡ map step found.items))) }
+        × ((steps : List Step) → AreStepsOf (outlined outline.now) (theory sys.now) (map plain statements.now) steps → steps ≡ map step found.items))) }
 {
     let portions = outline.parts.as_slice();
     let mut steps = Vec::new(alloc);

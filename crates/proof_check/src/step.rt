@@ -27,10 +27,7 @@ use rule_schemes::{JScheme, ReadScope, RuleId, Statement, System};
 use std::alloc::Global;
 
 /// What a step says that is written with `proof`.
-fn said_by_goal(
-    alloc: Global,
-    statement: &Statement,
-) -> Result<Option<(Text, JScheme)>, NoMemory>
+fn said_by_goal(alloc: Global, statement: &Statement) -> Result<Option<(Text, JScheme)>, NoMemory>
     ensures { IfOk result (λ found. Finds
         (λ (said : List ℕ × JudgmentScheme). (said.0 ≡ UNNAMED) × IsGoal (plain statement.now) said.1)
         (option_map (λ said. (said.0, judgment_scheme said.1)) found)) }
@@ -54,7 +51,7 @@ fn said_by_form(
     requires settled { reading_scope scope.now ≡ settled (plain_names scope.now.scope) }
     ensures { IfOk result (λ found. Finds
         (λ (said : List ℕ × JudgmentScheme). (said.0 ≡ name.now.text.now) × MayBeGiven sys.now.sig named.now name.now.text.now
-          × IsFormOf (theory sys.now) (plain_names scope.now.scope) (map token_view form.now) said.1)
+        × IsFormOf (theory sys.now) (plain_names scope.now.scope) (map token_view form.now) said.1)
         (option_map (λ said. (said.0, judgment_scheme said.1)) found)) }
 {
     if !may_be_given(sys.sig(), named, name.text.as_bytes()) {
@@ -80,7 +77,7 @@ fn said(
     requires settled { reading_scope scope.now ≡ settled (plain_names scope.now.scope) }
     ensures { IfOk result (λ found. Finds
         (λ (said : List ℕ × JudgmentScheme). Says (theory sys.now) (plain statement.now) (plain_names scope.now.scope) named.now
-          (map token_view (map (λ name. name.now) names.now)) (map plain_form (map (λ form. form.now) forms.now)) said.0 said.1)
+        (map token_view (map (λ name. name.now) names.now)) (map plain_form (map (λ form. form.now) forms.now)) said.0 said.1)
         (option_map (λ said. (said.0, judgment_scheme said.1)) found)) }
 {
     if names.len() == 0 && forms.len() == 0 {
@@ -104,7 +101,7 @@ fn by_rule(
 ) -> Result<Option<CoreStep>, NoMemory>
     ensures { IfOk result (λ found. Finds
         (IsStepOf (theory sys.now) named.now (token_view first.now)
-          (by_rule_of (token_view name.now) (map plain_argument (map arg_view arguments.now))) (judgment_scheme form))
+        (by_rule_of (token_view name.now) (map plain_argument (map arg_view arguments.now))) (judgment_scheme form))
         (option_map step found)) }
 {
     let Some(rule) = rule_named(name.text.as_bytes(), sys) else {
@@ -157,8 +154,8 @@ pub fn step_of(
     requires settled { reading_scope scope.now ≡ settled (plain_names scope.now.scope) }
     ensures { IfOk result (λ found. Finds
         (λ (made : List ℕ × Step). StandsFor (theory sys.now) (plain statement.now) (plain_names scope.now.scope) named.now (token_view first.now)
-          (map token_view (map (λ name. name.now) names.now)) (map plain_form (map (λ form. form.now) forms.now))
-          (plain_justification (just_view just.now)) made.0 made.1)
+        (map token_view (map (λ name. name.now) names.now)) (map plain_form (map (λ form. form.now) forms.now))
+        (plain_justification (just_view just.now)) made.0 made.1)
         (option_map (λ made. (made.0, step made.1)) found)) }
 {
     match said(alloc, sys, statement, scope, named, names, forms)? {

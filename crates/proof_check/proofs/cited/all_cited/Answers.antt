@@ -1,6 +1,5 @@
-use Rattle.std.proofs.Common.{◌≡◌, ℕ, List, [], ◌∷◌, ◌++◌, Some, None, map, refl, sym, ap, subst, ◌∙◌}
+use Rattle.std.proofs.Common.{◌≡◌, ℕ, List, [], ◌∷◌, ◌++◌, map, refl, sym, ap, subst, ◌∙◌}
 use Rattle.std.proofs.lemmas.List.{map-append, drop_all}
-use Rattle.std.specs.List.{AllZip}
 use Rattle.core_proofs.specs.declared.step.StepId.{StepId}
 use Rattle.outline_reader.specs.declared.parts.ArgText.{ArgText}
 use Rattle.outline_reader.specs.Views.{arg_view}

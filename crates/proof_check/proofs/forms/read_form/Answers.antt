@@ -1,8 +1,7 @@
-use Rattle.std.proofs.Common.{List, map, option_map, subst, Some, None}
+use Rattle.std.proofs.Common.{List, map, option_map, subst, None}
 use Rattle.rule_schemes.specs.Reading.{Token}
 use Rattle.rule_schemes.specs.Said.{want_judgment}
 use Rattle.rule_schemes.specs.View.{judgment_scheme}
-use Rattle.rule_schemes.specs.declared.reading.Reading.{Reading}
 use Rattle.scheme_terms.specs.View.{names, known_variable}
 use Rattle.notation_parser.specs.Answer.{IsAnswer}
 use Rattle.notation_parser.specs.View.{token, reading_scope, written, what_is_said}

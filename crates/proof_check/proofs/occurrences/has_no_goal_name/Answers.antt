@@ -1,4 +1,4 @@
-use Rattle.std.proofs.Common.{◌≡◌, ℕ, subst, sym, ◌∙◌, true≢false, arith}
+use Rattle.std.proofs.Common.{ℕ, subst, sym, ◌∙◌, true≢false, arith}
 use Rattle.rule_schemes.specs.Statement.{OccursInJudgment, IsOfInputs}
 use Rattle.rule_schemes.specs.View.{judgment_scheme, statement}
 use Rattle.proof_check.proofs.ScopeLemmas.{numbered_left, numbered_fails}

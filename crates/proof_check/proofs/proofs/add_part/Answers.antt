@@ -1,14 +1,13 @@
-use Rattle.std.proofs.Common.{◌≡◌, ◌+◌, ℕ, suc, List, [], ◌∷◌, ◌++◌, map, drop, refl, sym, ap, subst, ◌∙◌, true≢false, add-one, arith}
+use Rattle.std.proofs.Common.{◌+◌, ℕ, suc, List, [], map, drop, refl, sym, ap, subst, add-one, arith}
 use Rattle.std.proofs.lemmas.List.{append-nil}
 use Rattle.rule_schemes.specs.View.{theory, statement}
 use Rattle.outline_reader.specs.Views.{portion_view}
 use Rattle.outline_reader.specs.Plain.{plain_portion, PlainPortion}
-use Rattle.core_proofs.specs.Step.{Step}
 use Rattle.core_proofs.specs.View.{step}
 use Rattle.proof_check.specs.Steps.{AreStepsFrom}
 use Rattle.proof_check.specs.Finding.{Begins, Adds}
 use Rattle.proof_check.proofs.ProofLemmas.{seen, seen_at}
-use Rattle.proof_check.proofs.FileLemmas.{other_turn, misplaced}
+use Rattle.proof_check.proofs.FileLemmas.{other_turn}
 use Rattle.proof_check.proofs.proofs.add_part.Goals as goal
 
 pub returns-then-holds_no_proof : goal.returns-then-holds_no_proof
@@ -17,11 +16,17 @@ returns-then-holds_no_proof c =
     let sts = map statement c.args.statements.now in
     let p = plain_portion (portion_view c.index-portions-at.result) in
     let rest = seen (drop (c.args.at + 1) c.args.portions.now) in
-    let e = seen_at c.args.portions.now c.args.at c.index-portions-at.result p (omega arith) c.index-portions-at.is refl in
-    (omega arith, omega arith, omega arith,
-     ([], sym (append-nil (map step c.args.steps.now.items)),
-      subst (λ (ps : List PlainPortion). Begins (AreStepsFrom th sts c.args.theorem ps) (AreStepsFrom th sts c.args.theorem rest) []) (sym e)
-      (other_turn th sts c.args.theorem p rest (c.holds_no_proof.ensures.0 c.if-holds_no_proof.true))))
+    let e = seen_at c.args.portions.now c.args.at c.index-portions-at.result p (omega arith) c.index-portions-at.is refl in (
+      omega arith,
+      omega arith,
+      omega arith,
+      (
+        [],
+        sym (append-nil (map step c.args.steps.now.items)),
+        subst (λ (ps : List PlainPortion). Begins (AreStepsFrom th sts c.args.theorem ps) (AreStepsFrom th sts c.args.theorem rest) []) (sym e)
+            (other_turn th sts c.args.theorem p rest (c.holds_no_proof.ensures.0 c.if-holds_no_proof.true)),
+      ),
+    )
 
 pub returns-in-Some : goal.returns-in-Some
 returns-in-Some c =
@@ -34,9 +39,12 @@ returns-in-Some c =
     let f = rw (c.in-Some.is, c.as_slice.ensures.value) at c.in_ok-next-in-Theorem.ensures in
     let here = seen (drop c.args.at c.args.portions.now) in
     let added : Adds old new (AreStepsFrom th sts c.args.theorem here) (AreStepsFrom th sts (suc c.args.theorem) rest) =
-    subst (λ (ps : List PlainPortion). Adds old new (AreStepsFrom th sts c.args.theorem ps) (AreStepsFrom th sts (suc c.args.theorem) rest)) (sym e) f.2 in
-    (omega (arith, f.0), f.1, omega (arith, f.0),
-     subst (λ (n : ℕ). Adds old new (AreStepsFrom th sts c.args.theorem here) (AreStepsFrom th sts n rest)) (sym (add-one c.args.theorem)) added)
+    subst (λ (ps : List PlainPortion). Adds old new (AreStepsFrom th sts c.args.theorem ps) (AreStepsFrom th sts (suc c.args.theorem) rest)) (sym e) f.2 in (
+      omega (arith, f.0),
+      f.1,
+      omega (arith, f.0),
+      subst (λ (n : ℕ). Adds old new (AreStepsFrom th sts c.args.theorem here) (AreStepsFrom th sts n rest)) (sym (add-one c.args.theorem)) added,
+    )
 
 pub returns-in-None : goal.returns-in-None
 returns-in-None c =

@@ -1,15 +1,14 @@
-use Rattle.std.proofs.Common.{◌≡◌, ◌+◌, ℕ, suc, List, [], ◌∷◌, ◌++◌, Some, None, unwrap_or, map, drop, refl, sym, ap, subst, ◌∙◌, true≢false, arith}
+use Rattle.std.proofs.Common.{◌≡◌, ◌+◌, ℕ, suc, List, [], ◌∷◌, ◌++◌, Some, unwrap_or, map, drop, refl, sym, ap, subst, ◌∙◌, true≢false, arith}
 use Rattle.std.proofs.lemmas.List.{map-append, drop_all}
 use Rattle.scheme_terms.specs.View.{names}
-use Rattle.rule_schemes.specs.Statement.{Theorem}
 use Rattle.rule_schemes.specs.View.{theory, statement}
 use Rattle.proof_lexer.specs.View.{token_view}
-use Rattle.outline_reader.specs.Views.{just_view, portion_view}
-use Rattle.outline_reader.specs.Plain.{plain_form, plain_justification, plain_portion, step_of, end_line, PlainPortion}
-use Rattle.core_proofs.specs.Step.{Step, end_theorem}
+use Rattle.outline_reader.specs.Views.{portion_view}
+use Rattle.outline_reader.specs.Plain.{plain_portion, PlainPortion}
+use Rattle.core_proofs.specs.Step.{end_theorem}
 use Rattle.core_proofs.specs.View.{step}
 use Rattle.proof_check.specs.Steps.{AreStepsFrom, AreProofSteps}
-use Rattle.proof_check.specs.Finding.{Begins, Adds}
+use Rattle.proof_check.specs.Finding.{Begins}
 use Rattle.proof_check.proofs.ProofLemmas.{adds_then, adds_none, step_turn, step_stop, end_turn, seen, seen_at, stray}
 use Rattle.proof_check.proofs.proofs.add_proof.Goals as goal
 
@@ -32,7 +31,7 @@ returns-then-not-ends_proof c =
     let e = seen_at c.args.portions.now c.loop-i.i c.index-portions-i.result _ (omega arith) c.index-portions-i.is (ap (λ p. plain_portion (portion_view p)) c.in-End.is) in
     λ sts k. adds_none _ _ _ _ (c.loop-i.invariant sts k)
     (λ rest h. (let g = subst (λ (ps : List PlainPortion). AreProofSteps th sts k st scope c.loop-i.named c.loop-i.last ps rest) e h in
-      true≢false (sym (c.ends_proof.ensures.1 g.0) ∙ c.if-not-ends_proof.true)))
+    true≢false (sym (c.ends_proof.ensures.1 g.0) ∙ c.if-not-ends_proof.true)))
 
 pub returns-in-End : goal.returns-in-End
 returns-in-End c =
@@ -43,12 +42,14 @@ returns-in-End c =
     let ends = c.ends_proof.ensures.0 c.if-not-ends_proof.false in
     let line : c.unwrap_or.result ≡ unwrap_or c.loop-i.last c.in-End.first.now.line = c.unwrap_or.ensures in
     let pushed : map step c.push-in-End.new.self.items ≡ map step c.loop-i.steps.items ++ end_theorem (unwrap_or c.loop-i.last c.in-End.first.now.line) ∷ [] =
-    ap (map step) c.in_ok-push-in-End.ensures.items ∙ map-append step c.loop-i.steps.items _ ∙ ap (λ (n : ℕ). map step c.loop-i.steps.items ++ end_theorem n ∷ []) line in
-    (omega arith, omega arith,
-     λ sts k. adds_then _ _ _ _ _ (AreProofSteps th sts k st scope c.loop-i.named c.loop-i.last (seen (drop c.loop-i.i c.args.portions.now))) _ (c.loop-i.invariant sts k) pushed
-     (subst (λ (ps : List PlainPortion). Begins (AreProofSteps th sts k st scope c.loop-i.named c.loop-i.last ps)
-     (AreStepsFrom th sts (suc k) (seen (drop (c.loop-i.i + 1) c.args.portions.now))) (end_theorem (unwrap_or c.loop-i.last c.in-End.first.now.line) ∷ [])) (sym e)
-     (end_turn th sts k st scope c.loop-i.named c.loop-i.last (token_view c.in-End.first.now) c.in-End.part (seen (drop (c.loop-i.i + 1) c.args.portions.now)) ends)))
+    ap (map step) c.in_ok-push-in-End.ensures.items ∙ map-append step c.loop-i.steps.items _ ∙ ap (λ (n : ℕ). map step c.loop-i.steps.items ++ end_theorem n ∷ []) line in (
+      omega arith,
+      omega arith,
+      λ sts k. adds_then _ _ _ _ _ (AreProofSteps th sts k st scope c.loop-i.named c.loop-i.last (seen (drop c.loop-i.i c.args.portions.now))) _ (c.loop-i.invariant sts k) pushed
+          (subst (λ (ps : List PlainPortion). Begins (AreProofSteps th sts k st scope c.loop-i.named c.loop-i.last ps)
+          (AreStepsFrom th sts (suc k) (seen (drop (c.loop-i.i + 1) c.args.portions.now))) (end_theorem (unwrap_or c.loop-i.last c.in-End.first.now.line) ∷ [])) (sym e)
+          (end_turn th sts k st scope c.loop-i.named c.loop-i.last (token_view c.in-End.first.now) c.in-End.part (seen (drop (c.loop-i.i + 1) c.args.portions.now)) ends)),
+    )
 
 pub returns-in_default : goal.returns-in_default
 returns-in_default c =

@@ -1,10 +1,10 @@
-use Rattle.std.proofs.Common.{◌≡◌, ◌≤◌, ◌∷◌, [], ◌++◌, ℕ, suc, Some, None, List, refl, sym, ap, subst, ◌∙◌, arith, map, drop, slice_get, length}
+use Rattle.std.proofs.Common.{◌≡◌, ◌∷◌, [], ◌++◌, ℕ, ap, ◌∙◌, map, drop}
 use Rattle.std.proofs.lemmas.List.{map-append}
 use Rattle.scheme_terms.specs.View.{names}
 use Rattle.rule_schemes.specs.View.{theory, statement}
 use Rattle.outline_reader.specs.Views.{input_view}
 use Rattle.outline_reader.specs.Plain.{plain_input}
-use Rattle.core_proofs.specs.Step.{Step, begin_theorem}
+use Rattle.core_proofs.specs.Step.{begin_theorem}
 use Rattle.core_proofs.specs.View.{step}
 use Rattle.proof_check.specs.Cited.{given_names}
 use Rattle.proof_check.proofs.FindingLemmas.{finds_none}

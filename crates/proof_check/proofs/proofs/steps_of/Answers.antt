@@ -2,7 +2,6 @@ use Rattle.std.proofs.Common.{◌≡◌, List, [], Some, None, length, map, drop
 use Rattle.std.proofs.lemmas.List.{drop_all, length-map}
 use Rattle.rule_schemes.specs.View.{theory, statement}
 use Rattle.outline_reader.specs.Plain.{PlainPortion, outlined}
-use Rattle.core_proofs.specs.Step.{Step}
 use Rattle.core_proofs.specs.View.{step}
 use Rattle.proof_check.specs.Finding.{Finds}
 use Rattle.proof_check.specs.Steps.{AreStepsFrom}
@@ -28,7 +27,7 @@ returns-then-theorem-statements c =
     subst (λ (ps : List PlainPortion). Finds (AreStepsFrom th sts 0 ps) None) e
     (finds_none _ _ _ c.loop-at.invariant.begins
     (λ rest h. (let g = subst (λ (ps : List PlainPortion). AreStepsFrom th sts c.loop-at.theorem ps rest) past h in
-      c.if-theorem-statements.true (g.0 ∙ length-map c.args.statements.now statement))))
+    c.if-theorem-statements.true (g.0 ∙ length-map c.args.statements.now statement))))
 
 pub returns : goal.returns
 returns c =

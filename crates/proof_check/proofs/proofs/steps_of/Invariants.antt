@@ -1,4 +1,4 @@
-use Rattle.std.proofs.Common.{◌≤◌, ◌-◌, List, [], length, map, drop}
+use Rattle.std.proofs.Common.{◌≤◌, ◌-◌, length, map, drop}
 use Rattle.rule_schemes.specs.View.{theory, statement}
 use Rattle.outline_reader.specs.Views.{portion_view}
 use Rattle.outline_reader.specs.Plain.{plain_portion}

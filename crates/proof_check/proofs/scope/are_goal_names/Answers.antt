@@ -1,4 +1,4 @@
-use Rattle.std.proofs.Common.{◌≡◌, ℕ, subst, sym, ◌∙◌, true≢false, arith}
+use Rattle.std.proofs.Common.{ℕ, subst, sym, ◌∙◌, true≢false, arith}
 use Rattle.rule_schemes.specs.Statement.{IsOfInputs}
 use Rattle.rule_schemes.specs.View.{statement}
 use Rattle.proof_check.proofs.ScopeLemmas.{numbered_left, numbered_fails}

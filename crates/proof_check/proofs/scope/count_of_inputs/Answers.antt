@@ -1,4 +1,4 @@
-use Rattle.std.proofs.Common.{ℕ, subst, arith}
+use Rattle.std.proofs.Common.{subst, arith}
 use Rattle.rule_schemes.specs.Statement.{IsOfInputs}
 use Rattle.rule_schemes.specs.View.{statement}
 use Rattle.proof_check.proofs.ScopeLemmas.{numbered_more}

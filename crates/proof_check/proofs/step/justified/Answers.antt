@@ -1,4 +1,3 @@
-use Rattle.std.proofs.Common.{subst, sym}
 use Rattle.proof_check.proofs.step.justified.Goals as goal
 
 pub returns-in-Rule : goal.returns-in-Rule

@@ -1,4 +1,4 @@
-use Rattle.std.proofs.Common.{map, subst, sym}
+use Rattle.std.proofs.Common.{map}
 use Rattle.proof_lexer.specs.View.{token_view}
 use Rattle.rule_schemes.specs.View.{theory, statement, judgment_scheme}
 use Rattle.scheme_terms.specs.View.{names}
