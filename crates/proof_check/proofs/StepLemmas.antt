@@ -8,10 +8,10 @@ use Rattle.core_proofs.specs.Step.{Step, by_rule}
 use Rattle.sy_base.specs.Tokens.{PlainToken}
 use Rattle.proof_lexer.specs.declared.token.Token.{Token}
 use Rattle.proof_lexer.specs.View.{token_view}
-use Rattle.outline_reader.specs.Plain.{plain_form, PlainArgument, PlainJustification, by_rule_of}
+use Rattle.outline_reader.specs.Plain.{plain_form, PlainArgument, PlainJustification, by_rule_of, step_of}
 use Rattle.proof_check.specs.Cited.{IsNumberOf, IsCitedAs, MayBeGiven}
 use Rattle.proof_check.specs.Written.{IsFormOf, Says}
-use Rattle.proof_check.specs.Steps.{IsStepOf, by_its_rule, StandsFor}
+use Rattle.proof_check.specs.Steps.{IsStepOf, by_its_rule, MadeStep, StandsFor}
 use Rattle.proof_check.specs.Finding.{Finds}
 
 pub if_ok : {T E : Type 0} (r : Result T E) (P Q : T → Type 0) → ((x : T) → P x → Q x) → IfOk r P → IfOk r Q
@@ -74,24 +74,28 @@ module _ (th : Theory) (named : List (List ℕ)) (first name : PlainToken) (argu
       let d : others ≡ arguments = cc in
       g ns (subst (λ (xs : List PlainArgument). AllZip (IsCitedAs named) xs ns) d cited)
 
+abbrev made_of : List ℕ → ℕ → Step → MadeStep
+made_of name line step = record { name = name; line = line; step = step }
+
 module _ (th : Theory) (st : Theorem) (scope : Names) (named : List (List ℕ)) (first : PlainToken) (names : List PlainToken) (forms : List (List PlainToken)) (why : PlainJustification) where
   pub step_found : (n : List ℕ) (j : JudgmentScheme) (s : Step) → Finds (λ (said : List ℕ × JudgmentScheme). Says th st scope named names forms said.0 said.1) (Some (n, j)) →
-      Finds (IsStepOf th named first why j) (Some s) → Finds (λ (made : List ℕ × Step). StandsFor th st scope named first names forms why made.0 made.1) (Some (n, s))
+      Finds (IsStepOf th named first why j) (Some s) → Finds (StandsFor th st scope named (step_of first names forms why)) (Some (made_of n first.line s))
   step_found n j s f g = (
-    record { form = j; says = f.0; justified = g.0 },
+    (refl, (j, f.0, g.0)),
     λ b h.
-        let e = f.1 (b.0, h.form) h.says in
-        let name : b.0 ≡ n = ap (λ (p : List ℕ × JudgmentScheme). p.0) e in
-        let form : h.form ≡ j = ap (λ (p : List ℕ × JudgmentScheme). p.1) e in
-        ap (λ (x : List ℕ). (x, b.1)) name ∙ ap (λ (y : Step). (n, y)) (g.1 b.1 (subst (λ (x : JudgmentScheme). IsStepOf th named first why x b.1) form h.justified)),
+      let e = f.1 (b.name, h.1.0) h.1.1 in
+      let name : b.name ≡ n = ap (λ (p : List ℕ × JudgmentScheme). p.0) e in
+      let form : h.1.0 ≡ j = ap (λ (p : List ℕ × JudgmentScheme). p.1) e in
+      let step : b.step ≡ s = g.1 b.step (subst (λ (x : JudgmentScheme). IsStepOf th named first why x b.step) form h.1.2) in
+      ap (λ (x : List ℕ). made_of x b.line b.step) name ∙ ap (λ (x : ℕ). made_of n x b.step) h.0 ∙ ap (made_of n first.line) step,
   )
 
   pub not_justified : (n : List ℕ) (j : JudgmentScheme) → Finds (λ (said : List ℕ × JudgmentScheme). Says th st scope named names forms said.0 said.1) (Some (n, j)) →
-      Finds (IsStepOf th named first why j) None → Finds (λ (made : List ℕ × Step). StandsFor th st scope named first names forms why made.0 made.1) None
+      Finds (IsStepOf th named first why j) None → Finds (StandsFor th st scope named (step_of first names forms why)) None
   not_justified n j f g b h =
-      let form : h.form ≡ j = ap (λ (p : List ℕ × JudgmentScheme). p.1) (f.1 (b.0, h.form) h.says) in
-      g b.1 (subst (λ (x : JudgmentScheme). IsStepOf th named first why x b.1) form h.justified)
+      let form : h.1.0 ≡ j = ap (λ (p : List ℕ × JudgmentScheme). p.1) (f.1 (b.name, h.1.0) h.1.1) in
+      g b.step (subst (λ (x : JudgmentScheme). IsStepOf th named first why x b.step) form h.1.2)
 
   pub nothing_said : Finds (λ (said : List ℕ × JudgmentScheme). Says th st scope named names forms said.0 said.1) None →
-      Finds (λ (made : List ℕ × Step). StandsFor th st scope named first names forms why made.0 made.1) None
-  nothing_said f b h = f (b.0, h.form) h.says
+      Finds (StandsFor th st scope named (step_of first names forms why)) None
+  nothing_said f b h = f (b.name, h.1.0) h.1.1

@@ -2,4 +2,5 @@ pub mod Cited
 pub mod Finding
 pub mod Plain
 pub mod Steps
+pub mod View
 pub mod Written

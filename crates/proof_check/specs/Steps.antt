@@ -1,6 +1,6 @@
 -- The core steps for which the proofs of a file stand. To be held against docs/notation.md, 'Outline' and 'Steps'. So far a step stands for
 -- a core step only where it goes by a rule: for all other steps the relation has no case yet.
-use Rattle.std.specs.Prelude.{◌≡◌, ℕ, suc, List, [], ◌∷◌, ◌++◌, length, map, Option, Some, None, slice_get, unwrap_or}
+use Rattle.std.specs.Prelude.{◌≡◌, ◌⊎◌, ℕ, suc, List, [], ◌∷◌, ◌++◌, length, map, Option, Some, None, slice_get, unwrap_or}
 use Rattle.std.specs.List.{AllZip}
 use Rattle.scheme_terms.specs.Forms.{Names}
 use Rattle.rule_schemes.specs.Rules.{JudgmentScheme, Theory}
@@ -20,17 +20,27 @@ pub data IsStepOf (th : Theory) (named : List (List ℕ)) (first : PlainToken) (
       why ≡ by_rule_of name arguments → IsNumberOf name.text (map (λ rule. rule.name) th.rules) r → AllZip (IsCitedAs named) arguments on →
       step ≡ by_rule first.line form r on → IsStepOf th named first why form step
 
--- the core step for which a written step stands, and the name that it gives
-pub record StandsFor (th : Theory) (st : Theorem) (scope : Names) (named : List (List ℕ)) (first : PlainToken) (names : List PlainToken) (forms : List (List PlainToken)) (why : PlainJustification) (name : List ℕ) (step : Step) : Type 0 where
-  pub form : JudgmentScheme
-  pub says : Says th st scope named names forms name form
-  pub justified : IsStepOf th named first why form step
+-- what a written step makes: the name that it gives, its line and its core step
+pub record MadeStep : Type 0 where
+  pub name : List ℕ
+  pub line : ℕ
+  pub step : Step
+
+-- what a portion of a proof makes that is a step; no other portion makes one so far
+abbrev pub StandsFor : Theory → Theorem → Names → (named : List (List ℕ)) → PlainPortion → MadeStep → Type 0
+StandsFor th st scope named (step_of first names forms why) made =
+    (made.line ≡ first.line) × ((form : JudgmentScheme) × Says th st scope named names forms made.name form × IsStepOf th named first why form made.step)
+StandsFor th st scope named _ made = ⊥
 
 -- the `end` line of a theorem or lemma
 abbrev pub EndsProof : Part → Type 0
 EndsProof parts.Theorem = Unit {0}
 EndsProof parts.Lemma = Unit {0}
 EndsProof _ = ⊥
+
+abbrev pub IsProofEnd : PlainPortion → (line : ℕ) → Type 0
+IsProofEnd (end_line first part) line = EndsProof part × (line ≡ first.line)
+IsProofEnd _ line = ⊥
 
 -- a portion that stands outside of proofs
 abbrev pub HoldsNoProof : PlainPortion → Type 0
@@ -58,12 +68,10 @@ abbrev mutual
 
   pub AreProofSteps : Theory → List Theorem → (theorem : ℕ) → Theorem → Names → (named : List (List ℕ)) → (last : Option ℕ) → List PlainPortion → List Step → Type 0
   AreProofSteps th sts k st scope named last [] steps = ⊥
-  AreProofSteps th sts k st scope named last (step_of first names forms why ∷ portions) steps =
-      (name : List ℕ) × (step : Step) × (rest : List Step) × StandsFor th st scope named first names forms why name step
-      × (steps ≡ step ∷ rest) × AreProofSteps th sts k st scope (named ++ name ∷ []) (Some first.line) portions rest
-  AreProofSteps th sts k st scope named last (end_line first part ∷ portions) steps =
-      EndsProof part × ((rest : List Step) × (steps ≡ end_theorem (unwrap_or last first.line) ∷ rest) × AreStepsFrom th sts (suc k) portions rest)
-  AreProofSteps th sts k st scope named last (_ ∷ portions) steps = ⊥
+  AreProofSteps th sts k st scope named last (portion ∷ portions) steps =
+      ((line : ℕ) × (rest : List Step) × IsProofEnd portion line × (steps ≡ end_theorem (unwrap_or last line) ∷ rest) × AreStepsFrom th sts (suc k) portions rest)
+      ⊎ ((made : MadeStep) × (rest : List Step) × StandsFor th st scope named portion made × (steps ≡ made.step ∷ rest)
+      × AreProofSteps th sts k st scope (named ++ made.name ∷ []) (Some made.line) portions rest)
 
 -- the core steps for which the proofs of a file stand, theorem by theorem
 abbrev pub AreStepsOf : List PlainPortion → Theory → List Theorem → List Step → Type 0

@@ -12,14 +12,14 @@ ghost use Rattle.outline_reader.specs.Plain.{plain_input, plain_portion, outline
 ghost use Rattle.judgments.specs.Written.{settled};
 ghost use Rattle.core_proofs.specs.Step.{Step};
 ghost use Rattle.core_proofs.specs.View.{step};
-ghost use Rattle.proof_check.specs.Finding.{Adds};
+ghost use Rattle.proof_check.specs.Finding.{Finds, Adds};
 ghost use Rattle.proof_check.specs.Plain.{ArePlainStatements};
 ghost use Rattle.proof_check.specs.Cited.{given_names};
-ghost use Rattle.proof_check.specs.Steps.{EndsProof, HoldsNoProof, BeginsProof, AreStepsFrom, AreProofSteps, AreStepsOf};
+ghost use Rattle.proof_check.specs.Steps.{EndsProof, IsProofEnd, HoldsNoProof, BeginsProof, AreStepsFrom, AreProofSteps, AreStepsOf};
 
 use crate::names::{given, number};
 use crate::scope::{proof_scope, settled};
-use crate::step::step_of;
+use crate::step::{Made, step_of};
 use binding_terms::{NoMemory, Text};
 use core_proofs::CoreStep;
 use outline_reader::{InputText, Outline, Part, Portion};
@@ -34,6 +34,21 @@ fn ends_proof(part: Part) -> bool
         Part::Theorem => true,
         Part::Lemma => true,
         _ => false,
+    }
+}
+
+/// The line of the `end` of a theorem or lemma.
+fn proof_end(portion: &Portion<'_>) -> Option<u32>
+    ensures { Finds (IsProofEnd (plain_portion (portion_view portion.now))) result }
+{
+    match portion {
+        Portion::End { first, part } => {
+            if ends_proof(*part) {
+                return Some(first.line);
+            }
+            None
+        }
+        _ => None,
     }
 }
 
@@ -62,40 +77,22 @@ fn add_proof(
 {
     let mut last = None;
     for i in from..portions.len() {
-        match &portions[i] {
-            Portion::Step {
-                first,
-                names,
-                forms,
-                just,
-            } => match step_of(
-                alloc,
-                sys,
-                statement,
-                scope,
-                named.as_slice(),
-                first,
-                names.as_slice(),
-                forms.as_slice(),
-                just,
-            )? {
-                Some((name, step)) => {
-                    named.push(name)?;
-                    steps.push(step)?;
-                    last = Some(first.line);
-                }
-                None => return Ok(None),
-            },
-            Portion::End { first, part } => {
-                if !ends_proof(*part) {
-                    return Ok(None);
-                }
+        let portion = &portions[i];
+        match proof_end(portion) {
+            Some(line) => {
                 steps.push(CoreStep::End {
-                    line: last.unwrap_or(first.line),
+                    line: last.unwrap_or(line),
                 })?;
                 return Ok(Some(i + 1));
             }
-            _ => return Ok(None),
+            None => match step_of(alloc, sys, statement, scope, named.as_slice(), portion)? {
+                Some(Made { name, line, step }) => {
+                    named.push(name)?;
+                    steps.push(step)?;
+                    last = Some(line);
+                }
+                None => return Ok(None),
+            },
         }
     }
     Ok(None)

@@ -7,8 +7,8 @@ ghost use Rattle.rule_schemes.specs.View.{judgment_scheme, statement as plain, t
 ghost use Rattle.notation_parser.specs.Plain.{IsPlain};
 ghost use Rattle.notation_parser.specs.View.{reading_scope};
 ghost use Rattle.proof_lexer.specs.View.{token_view};
-ghost use Rattle.outline_reader.specs.Views.{arg_view, just_view};
-ghost use Rattle.outline_reader.specs.Plain.{plain_argument, plain_form, plain_justification, by_rule_of};
+ghost use Rattle.outline_reader.specs.Views.{arg_view, just_view, portion_view};
+ghost use Rattle.outline_reader.specs.Plain.{plain_argument, plain_form, plain_justification, plain_portion, by_rule_of};
 ghost use Rattle.judgments.specs.Written.{settled};
 ghost use Rattle.core_proofs.specs.Step.{Step};
 ghost use Rattle.core_proofs.specs.View.{step};
@@ -16,15 +16,24 @@ ghost use Rattle.proof_check.specs.Cited.{UNNAMED, MayBeGiven};
 ghost use Rattle.proof_check.specs.Finding.{Finds};
 ghost use Rattle.proof_check.specs.Written.{IsGoal, IsFormOf, Says};
 ghost use Rattle.proof_check.specs.Steps.{IsStepOf, StandsFor};
+ghost use Rattle.proof_check.specs.View.{made_step};
 
 use crate::cited::all_cited;
 use crate::forms::{goal, read_form};
 use crate::names::{may_be_given, number, rule_named, text_of};
 use binding_terms::{NoMemory, Text};
 use core_proofs::CoreStep;
-use outline_reader::{ArgText, Form, Just, Name};
+use outline_reader::{ArgText, Form, Just, Name, Portion};
 use rule_schemes::{JScheme, ReadScope, RuleId, Statement, System};
 use std::alloc::Global;
+
+/// What a step makes: the name that it gives, its line and its core step.
+#[derive(Drop)]
+pub struct Made {
+    pub name: Text,
+    pub line: u32,
+    pub step: CoreStep,
+}
 
 /// What a step says that is written with `proof`.
 fn said_by_goal(alloc: Global, statement: &Statement) -> Result<Option<(Text, JScheme)>, NoMemory>
@@ -138,31 +147,38 @@ fn justified(
     }
 }
 
-/// The core step for which a written step stands, and the name that it gives.
+/// What a portion of a proof makes that is a step.
 pub fn step_of(
     alloc: Global,
     sys: &System,
     statement: &Statement,
     scope: &ReadScope,
     named: &[Text],
-    first: Name<'_>,
-    names: &[Name<'_>],
-    forms: &[Form<'_>],
-    just: &Just<'_>,
-) -> Result<Option<(Text, CoreStep)>, NoMemory>
+    portion: &Portion<'_>,
+) -> Result<Option<Made>, NoMemory>
     requires plain { IsPlain sys.now.sig sys.now.judgments (reading_scope scope.now) want_judgment }
     requires settled { reading_scope scope.now ≡ settled (plain_names scope.now.scope) }
     ensures { IfOk result (λ found. Finds
-        (λ (made : List ℕ × Step). StandsFor (theory sys.now) (plain statement.now) (plain_names scope.now.scope) named.now (token_view first.now)
-        (map token_view (map (λ name. name.now) names.now)) (map plain_form (map (λ form. form.now) forms.now))
-        (plain_justification (just_view just.now)) made.0 made.1)
-        (option_map (λ made. (made.0, step made.1)) found)) }
+        (StandsFor (theory sys.now) (plain statement.now) (plain_names scope.now.scope) named.now (plain_portion (portion_view portion.now)))
+        (option_map made_step found)) }
 {
-    match said(alloc, sys, statement, scope, named, names, forms)? {
-        Some((name, form)) => match justified(alloc, sys, named, first, just, form)? {
-            Some(step) => Ok(Some((name, step))),
+    match portion {
+        Portion::Step {
+            first,
+            names,
+            forms,
+            just,
+        } => match said(alloc, sys, statement, scope, named, names, forms)? {
+            Some((name, form)) => match justified(alloc, sys, named, first, just, form)? {
+                Some(step) => Ok(Some(Made {
+                    name,
+                    line: first.line,
+                    step,
+                })),
+                None => Ok(None),
+            },
             None => Ok(None),
         },
-        None => Ok(None),
+        _ => Ok(None),
     }
 }
