@@ -23,7 +23,6 @@ use Rattle.proof_check.specs.Finding.{Finds, Begins}
 use Rattle.proof_check.specs.Plain.{ArePlainStatements}
 use Rattle.proof_check.specs.Steps.{HoldsNoProof, BeginsProof, AreStepsFrom, AreProofSteps}
 use Rattle.proof_check.proofs.NumberLemmas.{all_at}
-use Rattle.proof_check.proofs.ProofLemmas.{seen}
 
 all_front : {A : Type 0} (P : A → Type 0) (xs ys : List A) → AllByRecursion P (xs ++ ys) → AllByRecursion P xs
 all_front P [] ys all = tt
@@ -122,8 +121,3 @@ begin_kept th sts k given named portions st scope kept here f same all =
     subst (λ (n : Names). Begins (BeginsProof sts k follows) (AreProofSteps th sts k st n named None portions) (begin_theorem k ∷ [])) (sym same)
     (subst (λ (ns : List (List ℕ)). Begins (BeginsProof sts k follows) (AreProofSteps th sts k st scope ns None portions) (begin_theorem k ∷ [])) (sym all)
     (begin_turn sts k follows st scope here f))
-
--- an outline's portions
-pub seen_outlined : (portions : List Portion) → map (λ p. plain_portion (portion_view p)) portions ≡ seen portions
-seen_outlined [] = refl
-seen_outlined (p ∷ portions) = ap (λ (ps : List PlainPortion). plain_portion (portion_view p) ∷ ps) (seen_outlined portions)

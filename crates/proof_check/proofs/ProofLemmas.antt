@@ -10,6 +10,7 @@ use Rattle.outline_reader.specs.Views.{portion_view}
 use Rattle.outline_reader.specs.Plain.{PlainPortion, terminals, syntax_word, category, judgment_of, rule_of, theorem_of, step_of, inversion, case_rule, case_term, end_line, plain_portion}
 use Rattle.proof_check.specs.Finding.{Finds, Begins, Adds}
 use Rattle.proof_check.specs.Steps.{MadeStep, StandsFor, IsProofEnd, AreStepsFrom, AreProofSteps}
+use Rattle.proof_check.specs.View.{plain_portions}
 use Rattle.proof_check.proofs.FindingLemmas.{begins_at_start, begins_then, left}
 
 pub adds_then : {A : Type 0} (old mid new g : List A) (P Q R : List A → Type 0) → Adds old mid P Q → new ≡ mid ++ g → Begins Q R g → Adds old new P R
@@ -64,11 +65,8 @@ module _ (th : Theory) (sts : List Theorem) (k : ℕ) (st : Theorem) (scope : Na
 pub adds_nothing : {A : Type 0} (old : List A) (P : List A → Type 0) → Adds old old P P
 adds_nothing old P = ([], sym (append-nil old), begins_at_start P)
 
-abbrev pub seen : List Portion → List PlainPortion
-seen portions = map plain_portion (map portion_view portions)
-
 -- the portions from a place on
 pub seen_at : (portions : List Portion) (i : ℕ) (p : Portion) (plain : PlainPortion) → i < length portions → p ≡ get_or portions i p → plain_portion (portion_view p) ≡ plain →
-    seen (drop i portions) ≡ plain ∷ seen (drop (i + 1) portions)
-seen_at portions i p plain lt is same = ap seen (left portions i p lt is) ∙ ap (λ (q : PlainPortion). q ∷ seen (drop (i + 1) portions)) same
+    plain_portions (drop i portions) ≡ plain ∷ plain_portions (drop (i + 1) portions)
+seen_at portions i p plain lt is same = ap plain_portions (left portions i p lt is) ∙ ap (λ (q : PlainPortion). q ∷ plain_portions (drop (i + 1) portions)) same
 

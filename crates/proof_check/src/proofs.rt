@@ -14,6 +14,7 @@ ghost use Rattle.core_proofs.specs.Step.{Step};
 ghost use Rattle.core_proofs.specs.View.{step};
 ghost use Rattle.proof_check.specs.Finding.{Finds, Adds};
 ghost use Rattle.proof_check.specs.Plain.{ArePlainStatements};
+ghost use Rattle.proof_check.specs.View.{plain_portions};
 ghost use Rattle.proof_check.specs.Cited.{given_names};
 ghost use Rattle.proof_check.specs.Steps.{EndsProof, IsProofEnd, HoldsNoProof, BeginsProof, AreStepsFrom, AreProofSteps, AreStepsOf};
 
@@ -66,14 +67,14 @@ fn add_proof(
     requires plain { IsPlain sys.now.sig sys.now.judgments (reading_scope scope.now) want_judgment }
     requires settled { reading_scope scope.now ≡ settled (plain_names scope.now.scope) }
     requires from { from ≤ length portions.now }
-    ensures { IfOk result (λ found. MatchOption found
-        ((sts : List Theorem) (k : ℕ) (all : List Step) → AreProofSteps (theory sys.now) sts k (plain statement.now)
-        (plain_names scope.now.scope) named None (map plain_portion (map portion_view (drop from portions.now))) all → ⊥)
+    ensures { let th = theory sys.now in let st = plain statement.now in let names = plain_names scope.now.scope in
+      let here = plain_portions (drop from portions.now) in
+      IfOk result (λ found. MatchOption found
+        ((sts : List Theorem) (k : ℕ) (all : List Step) → AreProofSteps th sts k st names named None here all → ⊥)
         (λ next. (from ≤ next) × (next ≤ length portions.now)
-        × ((sts : List Theorem) (k : ℕ) → Adds (map step steps.old.items) (map step steps.new.items)
-        (AreProofSteps (theory sys.now) sts k (plain statement.now)
-        (plain_names scope.now.scope) named None (map plain_portion (map portion_view (drop from portions.now))))
-        (AreStepsFrom (theory sys.now) sts (suc k) (map plain_portion (map portion_view (drop next portions.now))))))) }
+          × ((sts : List Theorem) (k : ℕ) → Adds (map step steps.old.items) (map step steps.new.items)
+            (AreProofSteps th sts k st names named None here)
+            (AreStepsFrom th sts (suc k) (plain_portions (drop next portions.now)))))) }
 {
     let mut last = None;
     for i in from..portions.len() {
@@ -111,13 +112,15 @@ fn add_theorem(
 ) -> Result<Option<usize>, NoMemory>
     requires plain { ArePlainStatements (theory sys.now) (map plain statements.now) }
     requires from { from ≤ length portions.now }
-    ensures { IfOk result (λ found. let follows = λ (st : Theorem) (scope : Names). AreProofSteps (theory sys.now) (map plain statements.now) theorem st scope
-        (given_names (map plain_input (map input_view inputs.now))) None (map plain_portion (map portion_view (drop from portions.now))) in
-        MatchOption found
-        ((all : List Step) → BeginsProof (map plain statements.now) theorem follows all → ⊥)
+    ensures { let th = theory sys.now in let sts = map plain statements.now in
+      let given = given_names (map plain_input (map input_view inputs.now)) in
+      let follows = λ (st : Theorem) (scope : Names).
+        AreProofSteps th sts theorem st scope given None (plain_portions (drop from portions.now)) in
+      IfOk result (λ found. MatchOption found
+        ((all : List Step) → BeginsProof sts theorem follows all → ⊥)
         (λ next. (from ≤ next) × (next ≤ length portions.now)
-        × Adds (map step steps.old.items) (map step steps.new.items) (BeginsProof (map plain statements.now) theorem follows)
-        (AreStepsFrom (theory sys.now) (map plain statements.now) (suc theorem) (map plain_portion (map portion_view (drop next portions.now)))))) }
+          × Adds (map step steps.old.items) (map step steps.new.items) (BeginsProof sts theorem follows)
+            (AreStepsFrom th sts (suc theorem) (plain_portions (drop next portions.now))))) }
 {
     let statement = match at(statements, theorem) {
         Some(statement) => statement,
@@ -162,12 +165,13 @@ fn add_part(
     requires plain { ArePlainStatements (theory sys.now) (map plain statements.now) }
     requires at { at < length portions.now }
     requires theorem { theorem ≤ at }
-    ensures { IfOk result (λ found. MatchOption found
-        ((all : List Step) → AreStepsFrom (theory sys.now) (map plain statements.now) theorem (map plain_portion (map portion_view (drop at portions.now))) all → ⊥)
+    ensures { let th = theory sys.now in let sts = map plain statements.now in
+      let here = plain_portions (drop at portions.now) in
+      IfOk result (λ found. MatchOption found
+        ((all : List Step) → AreStepsFrom th sts theorem here all → ⊥)
         (λ next. (at < next.0) × (next.0 ≤ length portions.now) × (next.1 ≤ next.0)
-        × Adds (map step steps.old.items) (map step steps.new.items)
-        (AreStepsFrom (theory sys.now) (map plain statements.now) theorem (map plain_portion (map portion_view (drop at portions.now))))
-        (AreStepsFrom (theory sys.now) (map plain statements.now) next.1 (map plain_portion (map portion_view (drop next.0 portions.now)))))) }
+          × Adds (map step steps.old.items) (map step steps.new.items) (AreStepsFrom th sts theorem here)
+            (AreStepsFrom th sts next.1 (plain_portions (drop next.0 portions.now))))) }
 {
     match &portions[at] {
         Portion::Theorem { inputs, .. } => match add_theorem(
@@ -202,10 +206,11 @@ pub fn steps_of(
     statements: &[Statement],
 ) -> Result<Option<Vec<CoreStep>>, NoMemory>
     requires { ArePlainStatements (theory sys.now) (map plain statements.now) }
-    ensures { IfOk result (λ found. MatchOption found
-        ((steps : List Step) → AreStepsOf (outlined outline.now) (theory sys.now) (map plain statements.now) steps → ⊥)
-        (λ found. AreStepsOf (outlined outline.now) (theory sys.now) (map plain statements.now) (map step found.items)
-        × ((steps : List Step) → AreStepsOf (outlined outline.now) (theory sys.now) (map plain statements.now) steps → steps ≡ map step found.items))) }
+    ensures { let th = theory sys.now in let sts = map plain statements.now in
+      IfOk result (λ found. MatchOption found
+        ((steps : List Step) → AreStepsOf (outlined outline.now) th sts steps → ⊥)
+        (λ found. AreStepsOf (outlined outline.now) th sts (map step found.items)
+          × ((steps : List Step) → AreStepsOf (outlined outline.now) th sts steps → steps ≡ map step found.items))) }
 {
     let portions = outline.parts.as_slice();
     let mut steps = Vec::new(alloc);

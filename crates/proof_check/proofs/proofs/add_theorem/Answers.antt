@@ -8,7 +8,8 @@ use Rattle.core_proofs.specs.Step.{begin_theorem}
 use Rattle.core_proofs.specs.View.{step}
 use Rattle.proof_check.specs.Cited.{given_names}
 use Rattle.proof_check.proofs.FindingLemmas.{finds_none}
-use Rattle.proof_check.proofs.ProofLemmas.{seen, adds_then}
+use Rattle.proof_check.specs.View.{plain_portions}
+use Rattle.proof_check.proofs.ProofLemmas.{adds_then}
 use Rattle.proof_check.proofs.FileLemmas.{plain_reading, begin_kept, no_statement, no_proof_scope, statement_at, no_statement_at}
 use Rattle.proof_check.proofs.proofs.add_theorem.Goals as goal
 
@@ -31,7 +32,7 @@ pub returns-in-Some-3 : goal.returns-in-Some-3
 returns-in-Some-3 c =
     let sts = map statement c.args.statements.now in
     let k = c.args.theorem in
-    let turn = begin_kept (theory c.args.sys.now) sts k (given_names (map plain_input (map input_view c.args.inputs.now))) c.in_ok-named.named (seen (drop c.args.from c.args.portions.now))
+    let turn = begin_kept (theory c.args.sys.now) sts k (given_names (map plain_input (map input_view c.args.inputs.now))) c.in_ok-named.named (plain_portions (drop c.args.from c.args.portions.now))
     (statement c.in-Some.statement.now) (names c.in-Some-2.scope) (names c.settled-scope.result.scope)
     (statement_at c.args.statements.now k c.at.result c.in-Some.statement c.at.ensures c.in-Some.is) (rw c.in-Some-2.is at c.in_ok-scope.ensures) c.settled-scope.ensures.same c.in_ok-named.ensures in
     let pushed : map step c.push.new.self.items ≡ map step c.args.steps.now.items ++ begin_theorem k ∷ [] =
@@ -44,7 +45,7 @@ pub returns : goal.returns
 returns c =
     let sts = map statement c.args.statements.now in
     let k = c.args.theorem in
-    let turn = begin_kept (theory c.args.sys.now) sts k (given_names (map plain_input (map input_view c.args.inputs.now))) c.in_ok-named.named (seen (drop c.args.from c.args.portions.now))
+    let turn = begin_kept (theory c.args.sys.now) sts k (given_names (map plain_input (map input_view c.args.inputs.now))) c.in_ok-named.named (plain_portions (drop c.args.from c.args.portions.now))
     (statement c.in-Some.statement.now) (names c.in-Some-2.scope) (names c.settled-scope.result.scope)
     (statement_at c.args.statements.now k c.at.result c.in-Some.statement c.at.ensures c.in-Some.is) (rw c.in-Some-2.is at c.in_ok-scope.ensures) c.settled-scope.ensures.same c.in_ok-named.ensures in
     let f = rw c.in-None-3.is at c.in_ok-next.ensures in

@@ -1,7 +1,6 @@
 use Rattle.std.proofs.Common.{◌≤◌, ◌-◌, length, map, drop}
 use Rattle.rule_schemes.specs.View.{theory, statement}
-use Rattle.outline_reader.specs.Views.{portion_view}
-use Rattle.outline_reader.specs.Plain.{plain_portion}
+use Rattle.proof_check.specs.View.{plain_portions}
 use Rattle.core_proofs.specs.View.{step}
 use Rattle.proof_check.specs.Finding.{Begins}
 use Rattle.proof_check.specs.Steps.{AreStepsFrom}
@@ -11,8 +10,8 @@ abbrev pub invariant-loop-at : goal.invariant-loop-at
 invariant-loop-at l = record {
   within : l.at ≤ length l.portions;
   counted : l.theorem ≤ l.at;
-  begins : Begins (AreStepsFrom (theory l.sys) (map statement l.statements) 0 (map plain_portion (map portion_view l.portions)))
-      (AreStepsFrom (theory l.sys) (map statement l.statements) l.theorem (map plain_portion (map portion_view (drop l.at l.portions)))) (map step l.steps.items);
+  begins : Begins (AreStepsFrom (theory l.sys) (map statement l.statements) 0 (plain_portions l.portions))
+      (AreStepsFrom (theory l.sys) (map statement l.statements) l.theorem (plain_portions (drop l.at l.portions))) (map step l.steps.items);
 }
 
 abbrev pub decreases-loop-at : goal.decreases-loop-at
