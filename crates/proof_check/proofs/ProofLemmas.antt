@@ -1,5 +1,5 @@
 -- The steps of a proof, portion by portion.
-use Rattle.std.proofs.Common.{◌≡◌, ◌<◌, ◌+◌, ℕ, suc, List, [], ◌∷◌, ◌++◌, Option, Some, None, unwrap_or, length, get_or, map, drop, refl, sym, ap, subst, ◌∙◌, inl, inr, ◌⊎◌, append_assoc}
+use Rattle.std.proofs.Common.{◌≡◌, ◌<◌, ◌+◌, ℕ, suc, List, [], ◌∷◌, ◌++◌, Option, Some, None, unwrap_or, length, get_or, drop, refl, sym, ap, subst, ◌∙◌, inl, inr, append_assoc}
 use Rattle.std.proofs.lemmas.List.{append-nil}
 use Rattle.scheme_terms.specs.Forms.{Names}
 use Rattle.rule_schemes.specs.Rules.{Theory}
@@ -40,9 +40,11 @@ module _ (th : Theory) (sts : List Theorem) (k : ℕ) (st : Theorem) (scope : Na
       (rest : List Step) × (all ≡ (made.step ∷ []) ++ rest) × AreProofSteps th sts k st scope (named ++ made.name ∷ []) (Some made.line) portions rest
   step_whole made f no_end all (inl h) = absurd (no_end h.0 h.2)
   step_whole made f no_end all (inr h) =
-      let same : h.0 ≡ made = f.1 h.0 h.2 in
-      (h.1, h.3 ∙ ap (λ (m : MadeStep). m.step ∷ h.1) same,
-       subst (λ (m : MadeStep). AreProofSteps th sts k st scope (named ++ m.name ∷ []) (Some m.line) portions h.1) same h.4)
+      let same : h.0 ≡ made = f.1 h.0 h.2 in (
+        h.1,
+        h.3 ∙ ap (λ (m : MadeStep). m.step ∷ h.1) same,
+        subst (λ (m : MadeStep). AreProofSteps th sts k st scope (named ++ m.name ∷ []) (Some m.line) portions h.1) same h.4,
+      )
 
   pub step_turn : (made : MadeStep) → Finds (StandsFor th st scope named p) (Some made) → Finds (IsProofEnd p) None →
       Begins (AreProofSteps th sts k st scope named last (p ∷ portions)) (AreProofSteps th sts k st scope (named ++ made.name ∷ []) (Some made.line) portions) (made.step ∷ [])
@@ -69,4 +71,3 @@ adds_nothing old P = ([], sym (append-nil old), begins_at_start P)
 pub seen_at : (portions : List Portion) (i : ℕ) (p : Portion) (plain : PlainPortion) → i < length portions → p ≡ get_or portions i p → plain_portion (portion_view p) ≡ plain →
     plain_portions (drop i portions) ≡ plain ∷ plain_portions (drop (i + 1) portions)
 seen_at portions i p plain lt is same = ap plain_portions (left portions i p lt is) ∙ ap (λ (q : PlainPortion). q ∷ plain_portions (drop (i + 1) portions)) same
-

@@ -83,11 +83,11 @@ module _ (th : Theory) (st : Theorem) (scope : Names) (named : List (List ℕ)) 
   step_found n j s f g = (
     (refl, (j, f.0, g.0)),
     λ b h.
-      let e = f.1 (b.name, h.1.0) h.1.1 in
-      let name : b.name ≡ n = ap (λ (p : List ℕ × JudgmentScheme). p.0) e in
-      let form : h.1.0 ≡ j = ap (λ (p : List ℕ × JudgmentScheme). p.1) e in
-      let step : b.step ≡ s = g.1 b.step (subst (λ (x : JudgmentScheme). IsStepOf th named first why x b.step) form h.1.2) in
-      ap (λ (x : List ℕ). made_of x b.line b.step) name ∙ ap (λ (x : ℕ). made_of n x b.step) h.0 ∙ ap (made_of n first.line) step,
+        let e = f.1 (b.name, h.1.0) h.1.1 in
+        let name : b.name ≡ n = ap (λ (p : List ℕ × JudgmentScheme). p.0) e in
+        let form : h.1.0 ≡ j = ap (λ (p : List ℕ × JudgmentScheme). p.1) e in
+        let step : b.step ≡ s = g.1 b.step (subst (λ (x : JudgmentScheme). IsStepOf th named first why x b.step) form h.1.2) in
+        ap (λ (x : List ℕ). made_of x b.line b.step) name ∙ ap (λ (x : ℕ). made_of n x b.step) h.0 ∙ ap (made_of n first.line) step,
   )
 
   pub not_justified : (n : List ℕ) (j : JudgmentScheme) → Finds (λ (said : List ℕ × JudgmentScheme). Says th st scope named names forms said.0 said.1) (Some (n, j)) →

@@ -32,12 +32,13 @@ StandsFor th st scope named (step_of first names forms why) made =
     (made.line ≡ first.line) × ((form : JudgmentScheme) × Says th st scope named names forms made.name form × IsStepOf th named first why form made.step)
 StandsFor th st scope named _ made = ⊥
 
--- the `end` line of a theorem or lemma
+-- what ends a proof: the end of a theorem or lemma
 abbrev pub EndsProof : Part → Type 0
 EndsProof parts.Theorem = Unit {0}
 EndsProof parts.Lemma = Unit {0}
 EndsProof _ = ⊥
 
+-- the portion is the `end` line of a theorem or lemma, and stands on that line
 abbrev pub IsProofEnd : PlainPortion → (line : ℕ) → Type 0
 IsProofEnd (end_line first part) line = EndsProof part × (line ≡ first.line)
 IsProofEnd _ line = ⊥
@@ -57,8 +58,8 @@ BeginsProof sts k Follows steps =
     (st : Theorem) × (scope : Names) × (rest : List Step) × (slice_get sts k ≡ Some st) × IsProofScope st scope × (steps ≡ begin_theorem k ∷ rest) × Follows st scope rest
 
 -- The steps from a portion on. Outside of proofs, where so many theorems stand before: each theorem begins the proof of the statement with
--- its number, and at the end no statement is left. Within a proof, with the names in scope and the line of the last step, if any: each step stands for a core step, up to the
--- `end` line, which ends the proof on the line of the last step, or on its own where there is none.
+-- its number, and at the end no statement is left. Within a proof, with the names in scope and the line of the last step, if any: each
+-- portion makes a step, up to the `end` line, which ends the proof on the line of the last step, or on its own where there is none.
 abbrev mutual
   pub AreStepsFrom : Theory → List Theorem → (theorem : ℕ) → List PlainPortion → List Step → Type 0
   AreStepsFrom th sts k [] steps = (k ≡ length sts) × (steps ≡ [])

@@ -68,13 +68,13 @@ fn add_proof(
     requires settled { reading_scope scope.now ≡ settled (plain_names scope.now.scope) }
     requires from { from ≤ length portions.now }
     ensures { let th = theory sys.now in let st = plain statement.now in let names = plain_names scope.now.scope in
-      let here = plain_portions (drop from portions.now) in
-      IfOk result (λ found. MatchOption found
+        let here = plain_portions (drop from portions.now) in
+        IfOk result (λ found. MatchOption found
         ((sts : List Theorem) (k : ℕ) (all : List Step) → AreProofSteps th sts k st names named None here all → ⊥)
         (λ next. (from ≤ next) × (next ≤ length portions.now)
-          × ((sts : List Theorem) (k : ℕ) → Adds (map step steps.old.items) (map step steps.new.items)
-            (AreProofSteps th sts k st names named None here)
-            (AreStepsFrom th sts (suc k) (plain_portions (drop next portions.now)))))) }
+        × ((sts : List Theorem) (k : ℕ) → Adds (map step steps.old.items) (map step steps.new.items)
+        (AreProofSteps th sts k st names named None here)
+        (AreStepsFrom th sts (suc k) (plain_portions (drop next portions.now)))))) }
 {
     let mut last = None;
     for i in from..portions.len() {
@@ -113,14 +113,14 @@ fn add_theorem(
     requires plain { ArePlainStatements (theory sys.now) (map plain statements.now) }
     requires from { from ≤ length portions.now }
     ensures { let th = theory sys.now in let sts = map plain statements.now in
-      let given = given_names (map plain_input (map input_view inputs.now)) in
-      let follows = λ (st : Theorem) (scope : Names).
+        let given = given_names (map plain_input (map input_view inputs.now)) in
+        let follows = λ (st : Theorem) (scope : Names).
         AreProofSteps th sts theorem st scope given None (plain_portions (drop from portions.now)) in
-      IfOk result (λ found. MatchOption found
+        IfOk result (λ found. MatchOption found
         ((all : List Step) → BeginsProof sts theorem follows all → ⊥)
         (λ next. (from ≤ next) × (next ≤ length portions.now)
-          × Adds (map step steps.old.items) (map step steps.new.items) (BeginsProof sts theorem follows)
-            (AreStepsFrom th sts (suc theorem) (plain_portions (drop next portions.now))))) }
+        × Adds (map step steps.old.items) (map step steps.new.items) (BeginsProof sts theorem follows)
+        (AreStepsFrom th sts (suc theorem) (plain_portions (drop next portions.now))))) }
 {
     let statement = match at(statements, theorem) {
         Some(statement) => statement,
@@ -166,12 +166,12 @@ fn add_part(
     requires at { at < length portions.now }
     requires theorem { theorem ≤ at }
     ensures { let th = theory sys.now in let sts = map plain statements.now in
-      let here = plain_portions (drop at portions.now) in
-      IfOk result (λ found. MatchOption found
+        let here = plain_portions (drop at portions.now) in
+        IfOk result (λ found. MatchOption found
         ((all : List Step) → AreStepsFrom th sts theorem here all → ⊥)
         (λ next. (at < next.0) × (next.0 ≤ length portions.now) × (next.1 ≤ next.0)
-          × Adds (map step steps.old.items) (map step steps.new.items) (AreStepsFrom th sts theorem here)
-            (AreStepsFrom th sts next.1 (plain_portions (drop next.0 portions.now))))) }
+        × Adds (map step steps.old.items) (map step steps.new.items) (AreStepsFrom th sts theorem here)
+        (AreStepsFrom th sts next.1 (plain_portions (drop next.0 portions.now))))) }
 {
     match &portions[at] {
         Portion::Theorem { inputs, .. } => match add_theorem(
@@ -207,10 +207,10 @@ pub fn steps_of(
 ) -> Result<Option<Vec<CoreStep>>, NoMemory>
     requires { ArePlainStatements (theory sys.now) (map plain statements.now) }
     ensures { let th = theory sys.now in let sts = map plain statements.now in
-      IfOk result (λ found. MatchOption found
+        IfOk result (λ found. MatchOption found
         ((steps : List Step) → AreStepsOf (outlined outline.now) th sts steps → ⊥)
         (λ found. AreStepsOf (outlined outline.now) th sts (map step found.items)
-          × ((steps : List Step) → AreStepsOf (outlined outline.now) th sts steps → steps ≡ map step found.items))) }
+        × ((steps : List Step) → AreStepsOf (outlined outline.now) th sts steps → steps ≡ map step found.items))) }
 {
     let portions = outline.parts.as_slice();
     let mut steps = Vec::new(alloc);

@@ -1,14 +1,13 @@
-use Rattle.std.proofs.Common.{◌≡◌, ◌+◌, ℕ, suc, List, [], ◌∷◌, ◌++◌, Some, None, unwrap_or, map, drop, refl, sym, ap, subst, ◌∙◌, arith}
+use Rattle.std.proofs.Common.{◌≡◌, ◌+◌, ℕ, suc, List, [], ◌∷◌, ◌++◌, Some, unwrap_or, map, drop, refl, sym, ap, subst, ◌∙◌, arith}
 use Rattle.std.proofs.lemmas.List.{map-append, drop_all}
 use Rattle.scheme_terms.specs.View.{names}
-use Rattle.rule_schemes.specs.Statement.{Theorem}
 use Rattle.rule_schemes.specs.View.{theory, statement}
 use Rattle.outline_reader.specs.Views.{portion_view}
 use Rattle.outline_reader.specs.Plain.{plain_portion, PlainPortion}
-use Rattle.core_proofs.specs.Step.{Step, end_theorem}
+use Rattle.core_proofs.specs.Step.{end_theorem}
 use Rattle.core_proofs.specs.View.{step}
 use Rattle.proof_check.specs.Steps.{AreStepsFrom, AreProofSteps}
-use Rattle.proof_check.specs.Finding.{Begins, Adds}
+use Rattle.proof_check.specs.Finding.{Begins}
 use Rattle.proof_check.specs.View.{plain_portions}
 use Rattle.proof_check.proofs.ProofLemmas.{adds_then, adds_none, step_turn, step_stop, end_turn, seen_at}
 use Rattle.proof_check.proofs.proofs.add_proof.Goals as goal
@@ -22,12 +21,14 @@ returns-in-Some c =
     let rest = plain_portions (drop (c.loop-i.i + 1) c.args.portions.now) in
     let e = seen_at c.args.portions.now c.loop-i.i c.index-portions-i.result p (omega arith) c.index-portions-i.is refl in
     let pushed : map step c.push.new.self.items ≡ map step c.loop-i.steps.items ++ end_theorem (unwrap_or c.loop-i.last c.in-Some.line) ∷ [] =
-    ap (map step) c.in_ok-push-in-Some.ensures.items ∙ map-append step c.loop-i.steps.items _ ∙ ap (λ (n : ℕ). map step c.loop-i.steps.items ++ end_theorem n ∷ []) c.unwrap_or.ensures in
-    (omega arith, omega arith,
-     λ sts k. adds_then _ _ _ _ _ (AreProofSteps th sts k st scope c.loop-i.named c.loop-i.last (plain_portions (drop c.loop-i.i c.args.portions.now))) _ (c.loop-i.invariant sts k) pushed
-     (subst (λ (ps : List PlainPortion). Begins (AreProofSteps th sts k st scope c.loop-i.named c.loop-i.last ps)
-     (AreStepsFrom th sts (suc k) rest) (end_theorem (unwrap_or c.loop-i.last c.in-Some.line) ∷ [])) (sym e)
-     (end_turn th sts k st scope c.loop-i.named c.loop-i.last p rest c.in-Some.line c.in-Some.ensures)))
+    ap (map step) c.in_ok-push-in-Some.ensures.items ∙ map-append step c.loop-i.steps.items _ ∙ ap (λ (n : ℕ). map step c.loop-i.steps.items ++ end_theorem n ∷ []) c.unwrap_or.ensures in (
+      omega arith,
+      omega arith,
+      λ sts k. adds_then _ _ _ _ _ (AreProofSteps th sts k st scope c.loop-i.named c.loop-i.last (plain_portions (drop c.loop-i.i c.args.portions.now))) _ (c.loop-i.invariant sts k) pushed
+          (subst (λ (ps : List PlainPortion). Begins (AreProofSteps th sts k st scope c.loop-i.named c.loop-i.last ps)
+          (AreStepsFrom th sts (suc k) rest) (end_theorem (unwrap_or c.loop-i.last c.in-Some.line) ∷ [])) (sym e)
+          (end_turn th sts k st scope c.loop-i.named c.loop-i.last p rest c.in-Some.line c.in-Some.ensures)),
+    )
 
 pub returns-in-None-2 : goal.returns-in-None-2
 returns-in-None-2 c =

@@ -1,9 +1,9 @@
-use Rattle.std.proofs.Common.{Some, None, map, sym, ap, subst}
+use Rattle.std.proofs.Common.{Some, None, sym, ap, subst}
 use Rattle.scheme_terms.specs.View.{names}
 use Rattle.rule_schemes.specs.View.{theory, statement, judgment_scheme}
 use Rattle.proof_lexer.specs.View.{token_view}
-use Rattle.outline_reader.specs.Views.{just_view, portion_view}
-use Rattle.outline_reader.specs.Plain.{PlainPortion, plain_form, plain_justification, plain_portion}
+use Rattle.outline_reader.specs.Views.{portion_view}
+use Rattle.outline_reader.specs.Plain.{PlainPortion, plain_portion}
 use Rattle.core_proofs.specs.View.{step}
 use Rattle.proof_check.specs.Finding.{Finds}
 use Rattle.proof_check.specs.Steps.{StandsFor}
