@@ -1,0 +1,6 @@
+pub mod Cited
+pub mod Finding
+pub mod Plain
+pub mod Steps
+pub mod View
+pub mod Written
