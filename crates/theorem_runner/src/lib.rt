@@ -1,0 +1,10 @@
+//! Runs accepted proofs on derivations.
+#![tactic(auto)]
+
+mod inputs;
+mod laws;
+mod matching;
+
+pub use inputs::{InputValue, Inputs};
+pub use laws::{value_derives, value_exists, value_is_one};
+pub use matching::instantiates;
