@@ -1,6 +1,7 @@
 pub mod Bodies
 pub mod Concluding
 pub mod OneInstance
+pub mod Pairing
 pub mod PlainInstances
 pub mod Restricting
 pub mod ValueLaws

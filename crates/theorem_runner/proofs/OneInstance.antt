@@ -25,7 +25,7 @@ use Rattle.theorem_runner.specs.Instances.{Gives}
 use Rattle.theorem_runner.proofs.PlainInstances.{instance_args}
 use Rattle.theorem_runner.proofs.Restricting.{forms_plain}
 
-no_places : (inst : Instance) (ks : List (Option ℕ)) → AllZip (IsKnownPlace inst) [] ks → ks ≡ []
+pub no_places : (inst : Instance) (ks : List (Option ℕ)) → AllZip (IsKnownPlace inst) [] ks → ks ≡ []
 no_places inst [] h = refl
 no_places inst (k ∷ ks) h = absurd h
 
