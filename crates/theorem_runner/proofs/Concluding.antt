@@ -100,11 +100,16 @@ module _ (th : Theory) (system : IsPlainSystem th) (st : Theorem) (provable : Is
   outputs (j ∷ []) one forms e =
       let form = plain_form th system st.scope j forms.0.0 in
       let first : applied_judgment by j ≡ goal.form = cc in
-      let root : j.context.root ≡ goal.form.context.root = ap (λ (f : JudgmentScheme). f.context.root) first in
-      ((goal.derives, record {
-        same = sym (conclusion_same j form) ∙ ap (judgment_instance inst) first ∙ goal.is_instance.same;
-        closed = subst (λ r. AreClosed r (judgment made).args) (sym root) goal.is_instance.closed;
-      }), tt)
+      let root : j.context.root ≡ goal.form.context.root = ap (λ (f : JudgmentScheme). f.context.root) first in (
+        (
+          goal.derives,
+          record {
+            same = sym (conclusion_same j form) ∙ ap (judgment_instance inst) first ∙ goal.is_instance.same;
+            closed = subst (λ r. AreClosed r (judgment made).args) (sym root) goal.is_instance.closed;
+          },
+        ),
+        tt,
+      )
 
   pub concludes : DeriveConclusions th st inst (made ∷ [])
   concludes = record {

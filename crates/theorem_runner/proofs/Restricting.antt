@@ -1,5 +1,5 @@
 -- An instance that gives the inputs, restricted to the names in them.
-use Rattle.std.proofs.Common.{◌≡◌, ℕ, zero, suc, ◌+◌, ◌<◌, List, [], ◌∷◌, ◌++◌, length, Option, Some, None, slice_get, unwrap_or, MatchOption, inl, inr, refl, ap, ◌∙◌, sym, subst, arith}
+use Rattle.std.proofs.Common.{◌↔◌, IsTrue, is_some, ◌≡◌, ℕ, zero, suc, ◌+◌, ◌<◌, List, [], ◌∷◌, ◌++◌, length, Option, Some, None, slice_get, unwrap_or, MatchOption, inl, inr, refl, ap, ◌∙◌, sym, subst, arith}
 use Rattle.std.specs.List.{AllByRecursion, AllZip}
 use Rattle.std.proofs.lemmas.Option.{slice_get_within}
 use Rattle.binding_terms.specs.Numbered.{AnyByRecursion, AllNumbered}
@@ -12,13 +12,13 @@ use Rattle.pattern_unify.proofs.Places.{numbered, numbered_at, within as place_w
 use Rattle.rule_schemes.specs.Plain.{IsPlainSystem}
 use Rattle.rule_schemes.specs.Rules.{JudgmentScheme, JudgmentValue, Theory, IsInstance}
 use Rattle.rule_schemes.specs.Derivation.{judgment, Derives}
-use Rattle.rule_schemes.specs.Statement.{StatementInput, given, syntax_input, Theorem, InputTree, derived, term, IsGiven, given_value, FitsFor, IsInstantiation, IsOfInputs, OccursInInput}
+use Rattle.rule_schemes.specs.Statement.{StatementInput, given, syntax_input, Theorem, InputTree, derived, term, IsGiven, given_value, FitsFor, IsInstantiation, Instantiates, IsOfInputs, OccursInInput}
 use Rattle.core_proofs.specs.Plain.{IsPlainScope, IsPlainForm}
 use Rattle.core_proofs.specs.Proof.{IsProofScope, given_judgments}
 use Rattle.core_proofs.specs.Provable.{IsProvable, IsOfDerivation}
 use Rattle.core_proofs.proofs.Keeping.{plain_scope, plain_beginning}
 use Rattle.core_proofs.proofs.Moving.{is_front}
-use Rattle.theorem_runner.specs.Instances.{Gives}
+use Rattle.theorem_runner.specs.Instances.{Gives, IsOnlyInstance}
 use Rattle.theorem_runner.proofs.PlainInstances.{names_below, same_judgment}
 
 abbrev values_of_names : Instance → ℕ → List MetaDecl → List (Option Tree)
@@ -103,3 +103,12 @@ module _ (th : Theory) (system : IsPlainSystem th) (st : Theorem) (provable : Is
     pub restricted_gives : Gives th st scope v xs r
     restricted_gives =
         (restricted_fits, record { value = gives.value; fits = still_fits; inputs = still_given st.inputs xs provable.derivations forms_plain gives.inputs })
+
+-- inputs instantiate the statement exactly where one instance of the scope gives them
+pub instantiated : (th : Theory) (system : IsPlainSystem th) (st : Theorem) (provable : IsProvable th st) (scope : Names) (is : IsProofScope st scope)
+    (v : ContextValue) (xs : List InputTree) (o : Option Instance) → IsOnlyInstance th st scope v xs o → IsTrue (is_some o) ↔ Instantiates th st v xs
+instantiated th system st provable scope is v xs None none = (
+  λ h. let no : ⊥ = cc in absurd no,
+  λ inputs. absurd (none (restricted inputs.0 scope) (restricted_gives th system st provable scope is v xs inputs.0 inputs.1)),
+)
+instantiated th system st provable scope is v xs (Some inst) one = (λ h. (inst, one.0.1), λ inputs. refl)

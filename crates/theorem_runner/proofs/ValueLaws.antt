@@ -65,20 +65,22 @@ value_exists th sts steps k st v xs plain here inputs =
     let body = body_leads th sts steps k st b same in
     let gives = restricted_gives th plain.system st provable b.scope body.0 v xs inputs.0 inputs.1 in
     let made = makes_some th sts (restricted inputs.0 b.scope) b.body k (length sts) b.scope (given_judgments st.inputs) None (given_trees xs) None body.1
-    (given_count th (restricted inputs.0 b.scope) st.inputs xs gives.1.inputs) tt in
-    (made.0, record {
-      statement = st;
-      here = here;
-      before = b.before;
-      body = b.body;
-      split = b.split;
-      scope = b.scope;
-      is_scope = body.0;
-      inst = restricted inputs.0 b.scope;
-      sets = gives.0;
-      fits = gives.1;
-      makes = made.1;
-    })
+    (given_count th (restricted inputs.0 b.scope) st.inputs xs gives.1.inputs) tt in (
+      made.0,
+      record {
+        statement = st;
+        here = here;
+        before = b.before;
+        body = b.body;
+        split = b.split;
+        scope = b.scope;
+        is_scope = body.0;
+        inst = restricted inputs.0 b.scope;
+        sets = gives.0;
+        fits = gives.1;
+        makes = made.1;
+      },
+    )
 
 -- a value is that of the statement with the number, in any scope of it
 gives_in : (th : Theory) (st other : Theorem) (scope old : Names) (v : ContextValue) (xs : List InputTree) (inst : Instance) → other ≡ st → old ≡ scope →
@@ -111,8 +113,8 @@ no_context th system =
     all_from_places (λ (rule : Rule). (rule.conclusion.context.root ≡ Closed) × AllByRecursion (λ p. p.context.root ≡ Closed) rule.premises
     × IsJudgmentScheme th (rule_names rule) rule.conclusion × AllByRecursion (IsJudgmentScheme th (rule_names rule)) rule.premises) th.rules
     (λ r rule here. let plain = plain_rule_at th system r rule here in
-        let premises = premise_facts th (rule_names rule) rule.premises plain.premises in
-        (plain.conclusion.root, premises.0, plain.conclusion.in_scope, premises.1))
+    let premises = premise_facts th (rule_names rule) rule.premises plain.premises in
+    (plain.conclusion.root, premises.0, plain.conclusion.in_scope, premises.1))
 
 -- the value derives the goal
 derives_goal : (th : Theory) (sts : List Theorem) (steps : List Step) (k : ℕ) (v : ContextValue) (xs : List InputTree) (d : Derivation) → ArePlainProofs th sts steps →

@@ -66,12 +66,14 @@ pub fn instantiates(
         (λ st. IsTrue is ↔ Instantiates (kept_theory acc.now) st no_context_value (input_trees inputs.now))) }
 {
     acc.always_accepted();
+    let system = acc.system();
+    system.always_system();
     let of = &acc.statements()[theorem.0 as usize];
     let scope = proof_scope(alloc, of)?;
     let root = CtxValue {
         cat: None,
         entries: Items::new(alloc),
     };
-    let found = instance_of_inputs(alloc, acc.system(), of, &scope, &root, inputs)?;
+    let found = instance_of_inputs(alloc, system, of, &scope, &root, inputs)?;
     Ok(found.is_some())
 }
