@@ -13,6 +13,7 @@ use Rattle.core_proofs.specs.Step.{Step, begin_theorem, end_theorem, by_rule}
 use Rattle.core_proofs.specs.Proof.{Standing, outside, within, Leads}
 use Rattle.core_proofs.specs.Value.{subtrees, AreCitedTrees, Makes, makes_node, makes_last}
 use Rattle.core_proofs.proofs.Moving.{Ends, Applies, leads_on}
+use Rattle.theorem_runner.specs.Runs.{GoesWith}
 
 -- what the first step makes, and the rest
 pub record MakesNode (th : Theory) (inst : Instance) (scoped : List Derivation) (form : JudgmentScheme) (r : ℕ) (on : List ℕ) (steps : List Step) (made : Derivation) : Type 0 where
@@ -29,7 +30,7 @@ MakesOn th inst scoped last (begin_theorem n ∷ steps) made = ⊥
 MakesOn th inst scoped last (end_theorem line ∷ steps) made = last ≡ Some made
 MakesOn th inst scoped last (by_rule line form r on ∷ steps) made = MakesNode th inst scoped form r on steps made
 
-makes_on : (th : Theory) (inst : Instance) (scoped : List Derivation) (last : Option Derivation) (steps : List Step) (made : Derivation) →
+pub makes_on : (th : Theory) (inst : Instance) (scoped : List Derivation) (last : Option Derivation) (steps : List Step) (made : Derivation) →
     Makes th inst scoped last steps made → MakesOn th inst scoped last steps made
 makes_on th inst scoped last steps made (makes_node cited rule here ordinary cited_are rest) =
     record { cited = cited; rule = rule; here = here; ordinary = ordinary; cited_are = cited_are; rest = rest }
@@ -73,12 +74,7 @@ cited_trees scoped ds same (n ∷ on) (j ∷ cited) h =
     let rest = cited_trees scoped ds same on cited h.1 in
     (here.0 ∷ rest.0, (here.1, rest.1))
 
--- a last tree goes with a last form
-abbrev pub GoesWith : Option JudgmentScheme → Option Derivation → Type 0
-GoesWith None made = Unit {0}
-GoesWith (Some form) made = MatchOption made ⊥ (λ d. Unit {0})
-
-last_made : (form : JudgmentScheme) (last : Option JudgmentScheme) (made : Option Derivation) → GoesWith last made → last ≡ Some form → (d : Derivation) × (made ≡ Some d)
+pub last_made : (form : JudgmentScheme) (last : Option JudgmentScheme) (made : Option Derivation) → GoesWith last made → last ≡ Some form → (d : Derivation) × (made ≡ Some d)
 last_made form None made goes e = absurd (let no : ⊥ = cc in no)
 last_made form (Some j) None goes e = absurd goes
 last_made form (Some j) (Some d) goes e = (d, refl)

@@ -7,7 +7,7 @@ ghost use Rattle.rule_schemes.specs.Statement.{Instantiates};
 ghost use Rattle.core_proofs.specs.Kept.{kept_theory, kept_statements};
 ghost use Rattle.core_proofs.specs.Proof.{IsProofScope};
 ghost use Rattle.core_proofs.specs.Provable.{IsProvable};
-ghost use Rattle.theorem_runner.specs.Instances.{no_context_value, IsDerived, IsOnlyInstance};
+ghost use Rattle.theorem_runner.specs.Instances.{no_context_value, IsDerived, Gives, IsOnlyInstance};
 ghost use Rattle.theorem_runner.specs.View.{input_trees};
 
 use crate::inputs::{InputValue, Inputs};
@@ -50,6 +50,27 @@ pub(crate) fn instance_of_inputs(
         }
     }
     matcher.finish()
+}
+
+/// The instance that gives inputs which instantiate the statement.
+pub(crate) fn given_instance(
+    alloc: Global,
+    system: &System,
+    of: &Statement,
+    scope: &Scope,
+    root: &CtxValue,
+    inputs: &Inputs,
+) -> Result<Inst, NoMemory>
+    requires provable { IsProvable (theory system.now) (statement of.now) }
+    requires scope { IsProofScope (statement of.now) (names scope.now) }
+    requires inputs { Instantiates (theory system.now) (statement of.now) (context_value root.now) (input_trees inputs.now) }
+    ensures { IfOk result (λ inst. Gives (theory system.now) (statement of.now) (names scope.now) (context_value root.now) (input_trees inputs.now) (instance inst)) }
+{
+    match instance_of_inputs(alloc, system, of, scope, root, inputs)? {
+        Some(inst) => Ok(inst),
+        // There is one, since the inputs instantiate the statement.
+        None => Err(NoMemory),
+    }
 }
 
 /// Whether the inputs, each of them a derivation, instantiate the theorem: whether one instance of the statement makes their judgments
