@@ -1,5 +1,6 @@
 pub mod Bodies
 pub mod Concluding
+pub mod Going
 pub mod OneInstance
 pub mod Pairing
 pub mod PlainInstances

@@ -50,7 +50,7 @@ given_derived th inst (syntax_input m ∷ inputs) (derived d ∷ xs) h = absurd 
 given_derived th inst (syntax_input m ∷ inputs) (term t ∷ xs) h = given_derived th inst inputs xs h.1
 
 -- the forms of a proof's beginning are those of the statement with its number
-body_leads : (th : Theory) (sts : List Theorem) (steps : List Step) (k : ℕ) (st : Theorem) (b : HasBody th sts steps k (outside (length sts))) → b.st ≡ st →
+pub body_leads : (th : Theory) (sts : List Theorem) (steps : List Step) (k : ℕ) (st : Theorem) (b : HasBody th sts steps k (outside (length sts))) → b.st ≡ st →
     IsProofScope st b.scope × Leads th sts (within k b.scope (given_judgments st.inputs) None) b.body (outside (length sts))
 body_leads th sts steps k st b same = (
   subst (λ (s : Theorem). IsProofScope s b.scope) same b.is_scope,

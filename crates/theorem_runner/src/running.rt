@@ -1,5 +1,5 @@
 // The value of a proof.
-ghost use Rattle.std.specs.Prelude.{◌≡◌, ◌↔◌, ◌<◌, List, IsTrue, IfOk, None, Some, length, map, drop, slice_get, MatchOption};
+ghost use Rattle.std.specs.Prelude.{◌≡◌, ◌↔◌, ◌<◌, ◌++◌, ◌∷◌, [], List, IsTrue, IfOk, None, Some, length, map, drop, slice_get, MatchOption};
 ghost use Rattle.std.specs.List.{AllByRecursion};
 ghost use Rattle.scheme_terms.specs.View.{context_value, instance};
 ghost use Rattle.rule_schemes.specs.Rules.{judgment_instance};
@@ -73,6 +73,17 @@ fn make_node(
     Deriv::node(alloc, rule, judgment, cited)
 }
 
+/// The last of the trees.
+fn last_of(made: Vec<Deriv>) -> Result<Deriv, NoMemory>
+    ensures { IfOk result (λ d. (front : List Derivation) × (made.items ≡ front ++ d ∷ [])) }
+{
+    let mut left = made;
+    match left.pop() {
+        Some(last) => Ok(last),
+        None => Err(NoMemory),
+    }
+}
+
 /// What the steps from this one on make of the trees that are given, up to the end of the proof.
 fn make(
     alloc: Global,
@@ -97,7 +108,7 @@ fn make(
                 let tree = make_node(alloc, inst, made.as_slice(), form, *rule, on.as_slice())?;
                 made.push(tree)?;
             }
-            CoreStep::End { line: _ } => return made.pop().ok_or(NoMemory),
+            CoreStep::End { line: _ } => return last_of(made),
             // Right steps do not begin a proof within one.
             CoreStep::Begin(_) => return Err(NoMemory),
         }
