@@ -1,5 +1,5 @@
 // The value of a proof.
-ghost use Rattle.std.specs.Prelude.{◌≡◌, ◌↔◌, ◌<◌, ◌++◌, ◌∷◌, [], List, IsTrue, IfOk, None, Some, length, map, drop, slice_get, MatchOption};
+ghost use Rattle.std.specs.Prelude.{◌≡◌, ◌↔◌, ◌<◌, ◌^◌, ◌++◌, ◌∷◌, [], List, IsTrue, IfOk, None, Some, length, map, drop, slice_get, MatchOption};
 ghost use Rattle.std.specs.List.{AllByRecursion};
 ghost use Rattle.scheme_terms.specs.View.{context_value, instance};
 ghost use Rattle.rule_schemes.specs.Rules.{judgment_instance};
@@ -130,7 +130,8 @@ fn begins(step: &CoreStep, theorem: TheoremId) -> bool
 /// Where the proof of the theorem begins.
 fn beginning(acc: &Accepted, theorem: TheoremId) -> usize
     requires { theorem.0 < length acc.now.statements }
-    ensures { slice_get (kept_steps acc.now) result ≡ Some (begin_theorem theorem.0) }
+    ensures begins { slice_get (kept_steps acc.now) result ≡ Some (begin_theorem theorem.0) }
+    ensures small { result < 2 ^ 63 }
 {
     acc.always_accepted();
     let steps = acc.steps().as_slice();

@@ -20,8 +20,8 @@ loop-i-preserved c = λ m h e. elim (cases_lt m c.loop-i.i) [
       true≢false (sym (c.begins.ensures.1 is_it) ∙ c.if-begins.false)
 ]
 
-pub returns : goal.returns
-returns c =
+pub returns-clause-begins : goal.returns-clause-begins
+returns-clause-begins c =
     let whole : map step c.as_slice-steps.result.now ≡ kept_steps c.args.acc.now = ap (map step) (c.as_slice-steps.ensures.value ∙ c.steps.ensures) in
     let past : length (kept_steps c.args.acc.now) ≤ c.loop-i.i =
     (let count : length (map step c.as_slice-steps.result.now) ≡ length c.as_slice-steps.result.now = length-map c.as_slice-steps.result.now step in

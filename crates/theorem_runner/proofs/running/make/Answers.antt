@@ -1,0 +1,45 @@
+use Rattle.std.proofs.Common.{◌≡◌, ◌<◌, ◌+◌, ◌++◌, ◌∷◌, [], ℕ, List, length, map, drop, Some, None, IfOk, slice_get, refl, ap, sym, subst, ◌∙◌}
+use Rattle.std.specs.List.{AllByRecursion}
+use Rattle.std.proofs.lemmas.Result.{IfOk-weaker}
+use Rattle.scheme_terms.specs.View.{instance}
+use Rattle.rule_schemes.specs.Derivation.{Derivation}
+use Rattle.rule_schemes.specs.View.{judgment_scheme}
+use Rattle.core_proofs.specs.Kept.{kept_theory, kept_statements, kept_steps}
+use Rattle.core_proofs.specs.Step.{Step, end_theorem, by_rule}
+use Rattle.core_proofs.specs.View.{step}
+use Rattle.core_proofs.specs.Value.{Makes}
+use Rattle.theorem_runner.specs.Runs.{GoesOn}
+use Rattle.theorem_runner.proofs.Going.{step_at, next_step, going_bounds, going_rule, going_end}
+use Rattle.theorem_runner.proofs.running.make.Goals as goal
+
+pub make_node-requires : goal.make_node-requires
+make_node-requires c =
+    let here : slice_get (kept_steps c.args.acc.now) c.loop-i.i ≡ Some (by_rule c.in-Rule.line (judgment_scheme c.in-Rule.form) c.in-Rule.rule.0 (map (λ id. id.0) c.in-Rule.on)) =
+    ap (λ ss. slice_get (map step ss) c.loop-i.i) (sym (c.as_slice-steps.ensures.value ∙ c.steps.ensures))
+    ∙ step_at c.as_slice-steps.result.now c.loop-i.i c.index-steps-i.result c.loop-i-test.true c.index-steps-i.is ∙ ap (λ s. Some (step s)) c.in-Rule.is in
+    let going = subst (λ ss. GoesOn (kept_theory c.args.acc.now) (kept_statements c.args.acc.now) (instance c.args.inst.now) c.args.given.items (drop c.args.from (kept_steps c.args.acc.now)) c.loop-i.made.items ss)
+    (next_step (kept_steps c.args.acc.now) c.loop-i.i _ here) c.loop-i.invariant in
+    rw (c.as_slice.ensures.value, c.as_slice-in-Rule.ensures) (going_bounds _ _ _ _ _ _ _ _ _ _ _ going)
+
+pub returns-in-End : goal.returns-in-End
+returns-in-End c =
+    let here : slice_get (kept_steps c.args.acc.now) c.loop-i.i ≡ Some (end_theorem c.in-End.line) =
+    ap (λ ss. slice_get (map step ss) c.loop-i.i) (sym (c.as_slice-steps.ensures.value ∙ c.steps.ensures))
+    ∙ step_at c.as_slice-steps.result.now c.loop-i.i c.index-steps-i.result c.loop-i-test.true c.index-steps-i.is ∙ ap (λ s. Some (step s)) c.in-End.is in
+    let going = subst (λ ss. GoesOn (kept_theory c.args.acc.now) (kept_statements c.args.acc.now) (instance c.args.inst.now) c.args.given.items (drop c.args.from (kept_steps c.args.acc.now)) c.loop-i.made.items ss)
+    (next_step (kept_steps c.args.acc.now) c.loop-i.i _ here) c.loop-i.invariant in
+    IfOk-weaker c.last_of.result (λ d. (front : List Derivation) × (c.loop-i.made.items ≡ front ++ d ∷ []))
+    (λ d. Makes (kept_theory c.args.acc.now) (instance c.args.inst.now) c.args.given.items None (drop c.args.from (kept_steps c.args.acc.now)) d)
+    (λ d last. going_end _ _ _ _ _ _ _ _ going last.0 d last.1) c.last_of.ensures
+
+pub loop-i-preserved : goal.loop-i-preserved
+loop-i-preserved c =
+    let here : slice_get (kept_steps c.args.acc.now) c.loop-i.i ≡ Some (by_rule c.in-Rule.line (judgment_scheme c.in-Rule.form) c.in-Rule.rule.0 (map (λ id. id.0) c.in-Rule.on)) =
+    ap (λ ss. slice_get (map step ss) c.loop-i.i) (sym (c.as_slice-steps.ensures.value ∙ c.steps.ensures))
+    ∙ step_at c.as_slice-steps.result.now c.loop-i.i c.index-steps-i.result c.loop-i-test.true c.index-steps-i.is ∙ ap (λ s. Some (step s)) c.in-Rule.is in
+    let going = subst (λ ss. GoesOn (kept_theory c.args.acc.now) (kept_statements c.args.acc.now) (instance c.args.inst.now) c.args.given.items (drop c.args.from (kept_steps c.args.acc.now)) c.loop-i.made.items ss)
+    (next_step (kept_steps c.args.acc.now) c.loop-i.i _ here) c.loop-i.invariant in
+    let made = rw (c.as_slice.ensures.value, c.as_slice-in-Rule.ensures) at c.in_ok-tree-in-Rule.ensures in
+    let next = going_rule _ _ _ _ _ _ _ _ _ _ _ going made.0 c.in_ok-tree-in-Rule.tree made.1 made.2 in
+    subst (λ ds. GoesOn (kept_theory c.args.acc.now) (kept_statements c.args.acc.now) (instance c.args.inst.now) c.args.given.items (drop c.args.from (kept_steps c.args.acc.now)) ds
+    (drop (c.loop-i.i + 1) (kept_steps c.args.acc.now))) (sym c.in_ok-push-in-Rule.ensures.items) next
