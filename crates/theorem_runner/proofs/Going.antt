@@ -111,7 +111,22 @@ module _ (th : Theory) (sts : List Theorem) (inst : Instance) (G : List Derivati
           so_far = λ d makes. g.so_far d (makes_node cited right.rule right.here right.is_instance.ordinary cited_are makes);
         })
 
-  -- at the end of the proof the last tree is made
+  -- no proof begins within one, and each is ended
+  pub going_within : (n : ℕ) (rest : List Step) → GoesOn th sts inst G whole M (begin_theorem n ∷ rest) → ⊥
+  going_within n rest g = (leads_on th sts (within g.theorem g.scope g.scoped g.last) (outside g.ended) (begin_theorem n ∷ rest) g.leads).1
+
+  pub going_unended : GoesOn th sts inst G whole M [] → ⊥
+  going_unended g = let wrong = leads_on th sts (within g.theorem g.scope g.scoped g.last) (outside g.ended) [] g.leads in let no : ⊥ = cc in no
+
+  -- at the end of the proof there is a tree
+  pub going_some : (line : ℕ) (rest : List Step) → GoesOn th sts inst G whole M (end_theorem line ∷ rest) → 0 < length M
+  going_some line rest g =
+      let go = leads_on th sts (within g.theorem g.scope g.scoped g.last) (outside g.ended) (end_theorem line ∷ rest) g.leads in
+      let tree = last_made go.1.form g.last g.last_tree g.goes go.1.last_is in
+      let end = subst (IsAtEnd M) tree.1 g.at_end in
+      omega (arith, ap length end.1, length-append end.0 (tree.0 ∷ []))
+
+  -- and the last one is made
   pub going_end : (line : ℕ) (rest : List Step) → GoesOn th sts inst G whole M (end_theorem line ∷ rest) → (front : List Derivation) (d : Derivation) → M ≡ front ++ d ∷ [] →
       Makes th inst G None whole d
   going_end line rest g front d e =

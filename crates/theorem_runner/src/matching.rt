@@ -66,10 +66,11 @@ pub(crate) fn given_instance(
     requires inputs { Instantiates (theory system.now) (statement of.now) (context_value root.now) (input_trees inputs.now) }
     ensures { IfOk result (λ inst. Gives (theory system.now) (statement of.now) (names scope.now) (context_value root.now) (input_trees inputs.now) (instance inst)) }
 {
+    system.always_system();
     match instance_of_inputs(alloc, system, of, scope, root, inputs)? {
         Some(inst) => Ok(inst),
         // There is one, since the inputs instantiate the statement.
-        None => Err(NoMemory),
+        None => unreachable!(),
     }
 }
 

@@ -74,13 +74,14 @@ fn make_node(
 }
 
 /// The last of the trees.
-fn last_of(made: Vec<Deriv>) -> Result<Deriv, NoMemory>
-    ensures { IfOk result (λ d. (front : List Derivation) × (made.items ≡ front ++ d ∷ [])) }
+fn last_of(made: Vec<Deriv>) -> Deriv
+    requires { 0 < length made.items }
+    ensures { (front : List Derivation) × (made.items ≡ front ++ result ∷ []) }
 {
     let mut left = made;
     match left.pop() {
-        Some(last) => Ok(last),
-        None => Err(NoMemory),
+        Some(last) => last,
+        None => unreachable!(),
     }
 }
 
@@ -108,13 +109,13 @@ fn make(
                 let tree = make_node(alloc, inst, made.as_slice(), form, *rule, on.as_slice())?;
                 made.push(tree)?;
             }
-            CoreStep::End { line: _ } => return last_of(made),
+            CoreStep::End { line: _ } => return Ok(last_of(made)),
             // Right steps do not begin a proof within one.
-            CoreStep::Begin(_) => return Err(NoMemory),
+            CoreStep::Begin(_) => unreachable!(),
         }
     }
     // Right steps end each proof.
-    Err(NoMemory)
+    unreachable!()
 }
 
 /// Whether the step begins the proof of the theorem.
@@ -140,7 +141,8 @@ fn beginning(acc: &Accepted, theorem: TheoremId) -> usize
             return i;
         }
     }
-    0
+    // Each theorem has a proof.
+    unreachable!()
 }
 
 /// Runs the theorem on inputs that instantiate it: follows its written proof, and gives the derivation of its conclusion.

@@ -20,8 +20,8 @@ loop-i-preserved c = λ m h e. elim (cases_lt m c.loop-i.i) [
       true≢false (sym (c.begins.ensures.1 is_it) ∙ c.if-begins.false)
 ]
 
-pub returns-clause-begins : goal.returns-clause-begins
-returns-clause-begins c =
+pub unreachable-requires : goal.unreachable-requires
+unreachable-requires c =
     let whole : map step c.as_slice-steps.result.now ≡ kept_steps c.args.acc.now = ap (map step) (c.as_slice-steps.ensures.value ∙ c.steps.ensures) in
     let past : length (kept_steps c.args.acc.now) ≤ c.loop-i.i =
     (let count : length (map step c.as_slice-steps.result.now) ≡ length c.as_slice-steps.result.now = length-map c.as_slice-steps.result.now step in
@@ -29,4 +29,4 @@ returns-clause-begins c =
     let below : c.args.theorem.0 < length (kept_statements c.args.acc.now) =
     subst (λ n. c.args.theorem.0 < n) (sym (length-map c.args.acc.now.statements statement)) c.requires in
     let none = subst (λ ss. (m : ℕ) → m < c.loop-i.i → slice_get ss m ≡ Some (begin_theorem c.args.theorem.0) → ⊥) whole c.loop-i.invariant in
-    absurd (begins_somewhere _ _ (kept_steps c.args.acc.now) c.args.theorem.0 c.always_accepted.ensures.proves below c.loop-i.i past none)
+    (begins_somewhere _ _ (kept_steps c.args.acc.now) c.args.theorem.0 c.always_accepted.ensures.proves below c.loop-i.i past none)

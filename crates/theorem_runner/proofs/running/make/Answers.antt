@@ -1,15 +1,15 @@
-use Rattle.std.proofs.Common.{◌≡◌, ◌<◌, ◌+◌, ◌++◌, ◌∷◌, [], ℕ, List, length, map, drop, Some, None, IfOk, slice_get, refl, ap, sym, subst, ◌∙◌}
+use Rattle.std.proofs.Common.{◌≡◌, ◌≤◌, ◌<◌, ◌+◌, ◌++◌, ◌∷◌, [], ℕ, List, length, map, drop, Some, None, IfOk, slice_get, refl, ap, sym, subst, ◌∙◌}
 use Rattle.std.specs.List.{AllByRecursion}
-use Rattle.std.proofs.lemmas.Result.{IfOk-weaker}
+use Rattle.std.proofs.lemmas.List.{drop_all, length-map}
 use Rattle.scheme_terms.specs.View.{instance}
 use Rattle.rule_schemes.specs.Derivation.{Derivation}
 use Rattle.rule_schemes.specs.View.{judgment_scheme}
 use Rattle.core_proofs.specs.Kept.{kept_theory, kept_statements, kept_steps}
-use Rattle.core_proofs.specs.Step.{Step, end_theorem, by_rule}
+use Rattle.core_proofs.specs.Step.{Step, begin_theorem, end_theorem, by_rule}
 use Rattle.core_proofs.specs.View.{step}
 use Rattle.core_proofs.specs.Value.{Makes}
 use Rattle.theorem_runner.specs.Runs.{GoesOn}
-use Rattle.theorem_runner.proofs.Going.{step_at, next_step, going_bounds, going_rule, going_end}
+use Rattle.theorem_runner.proofs.Going.{step_at, next_step, going_bounds, going_rule, going_end, going_some, going_within, going_unended}
 use Rattle.theorem_runner.proofs.running.make.Goals as goal
 
 pub make_node-requires : goal.make_node-requires
@@ -21,6 +21,15 @@ make_node-requires c =
     (next_step (kept_steps c.args.acc.now) c.loop-i.i _ here) c.loop-i.invariant in
     rw (c.as_slice.ensures.value, c.as_slice-in-Rule.ensures) (going_bounds _ _ _ _ _ _ _ _ _ _ _ going)
 
+pub last_of-requires : goal.last_of-requires
+last_of-requires c =
+    let here : slice_get (kept_steps c.args.acc.now) c.loop-i.i ≡ Some (end_theorem c.in-End.line) =
+    ap (λ ss. slice_get (map step ss) c.loop-i.i) (sym (c.as_slice-steps.ensures.value ∙ c.steps.ensures))
+    ∙ step_at c.as_slice-steps.result.now c.loop-i.i c.index-steps-i.result c.loop-i-test.true c.index-steps-i.is ∙ ap (λ s. Some (step s)) c.in-End.is in
+    let going = subst (λ ss. GoesOn (kept_theory c.args.acc.now) (kept_statements c.args.acc.now) (instance c.args.inst.now) c.args.given.items (drop c.args.from (kept_steps c.args.acc.now)) c.loop-i.made.items ss)
+    (next_step (kept_steps c.args.acc.now) c.loop-i.i _ here) c.loop-i.invariant in
+    going_some _ _ _ _ _ _ _ _ going
+
 pub returns-in-End : goal.returns-in-End
 returns-in-End c =
     let here : slice_get (kept_steps c.args.acc.now) c.loop-i.i ≡ Some (end_theorem c.in-End.line) =
@@ -28,9 +37,23 @@ returns-in-End c =
     ∙ step_at c.as_slice-steps.result.now c.loop-i.i c.index-steps-i.result c.loop-i-test.true c.index-steps-i.is ∙ ap (λ s. Some (step s)) c.in-End.is in
     let going = subst (λ ss. GoesOn (kept_theory c.args.acc.now) (kept_statements c.args.acc.now) (instance c.args.inst.now) c.args.given.items (drop c.args.from (kept_steps c.args.acc.now)) c.loop-i.made.items ss)
     (next_step (kept_steps c.args.acc.now) c.loop-i.i _ here) c.loop-i.invariant in
-    IfOk-weaker c.last_of.result (λ d. (front : List Derivation) × (c.loop-i.made.items ≡ front ++ d ∷ []))
-    (λ d. Makes (kept_theory c.args.acc.now) (instance c.args.inst.now) c.args.given.items None (drop c.args.from (kept_steps c.args.acc.now)) d)
-    (λ d last. going_end _ _ _ _ _ _ _ _ going last.0 d last.1) c.last_of.ensures
+    going_end _ _ _ _ _ _ _ _ going c.last_of.ensures.0 c.last_of.result c.last_of.ensures.1
+
+pub unreachable-requires : goal.unreachable-requires
+unreachable-requires c =
+    let here : slice_get (kept_steps c.args.acc.now) c.loop-i.i ≡ Some (begin_theorem c.in-Begin.field-0.0) =
+    ap (λ ss. slice_get (map step ss) c.loop-i.i) (sym (c.as_slice-steps.ensures.value ∙ c.steps.ensures))
+    ∙ step_at c.as_slice-steps.result.now c.loop-i.i c.index-steps-i.result c.loop-i-test.true c.index-steps-i.is ∙ ap (λ s. Some (step s)) c.in-Begin.is in
+    let going = subst (λ ss. GoesOn (kept_theory c.args.acc.now) (kept_statements c.args.acc.now) (instance c.args.inst.now) c.args.given.items (drop c.args.from (kept_steps c.args.acc.now)) c.loop-i.made.items ss)
+    (next_step (kept_steps c.args.acc.now) c.loop-i.i _ here) c.loop-i.invariant in
+    going_within _ _ _ _ _ _ _ _ going
+
+pub unreachable-requires-2 : goal.unreachable-requires-2
+unreachable-requires-2 c =
+    let past : length (kept_steps c.args.acc.now) ≤ c.loop-i.i =
+    subst (λ n. n ≤ c.loop-i.i) (sym (length-map c.as_slice-steps.result.now step) ∙ ap (λ ss. length (map step ss)) (c.as_slice-steps.ensures.value ∙ c.steps.ensures)) c.loop-i-test.false in
+    going_unended _ _ _ _ _ _ (subst (λ ss. GoesOn (kept_theory c.args.acc.now) (kept_statements c.args.acc.now) (instance c.args.inst.now) c.args.given.items (drop c.args.from (kept_steps c.args.acc.now)) c.loop-i.made.items ss)
+    (drop_all c.loop-i.i (kept_steps c.args.acc.now) past) c.loop-i.invariant)
 
 pub loop-i-preserved : goal.loop-i-preserved
 loop-i-preserved c =
