@@ -1,13 +1,13 @@
 -- In right proofs the proof of each statement begins once.
 use Rattle.std.proofs.lemmas.Bool.{cases_eq}
 use Rattle.std.proofs.lemmas.Option.{slice_get_within}
-use Rattle.std.proofs.Common.{inl, inr, ◌≡◌, ℕ, zero, suc, ◌+◌, ◌*◌, ◌<◌, ◌≤◌, List, [], ◌∷◌, ◌++◌, length, map, Option, Some, None, slice_get, refl, ap, ◌∙◌, sym, subst, arith}
+use Rattle.std.proofs.Common.{inl, inr, ◌≡◌, ℕ, suc, ◌+◌, ◌*◌, ◌<◌, ◌≤◌, List, [], ◌∷◌, ◌++◌, length, Some, None, slice_get, refl, ap, ◌∙◌, sym, subst, arith}
 use Rattle.scheme_terms.specs.Forms.{Names}
-use Rattle.rule_schemes.specs.Rules.{JudgmentScheme, Theory}
+use Rattle.rule_schemes.specs.Rules.{Theory}
 use Rattle.rule_schemes.specs.Statement.{Theorem}
 use Rattle.core_proofs.specs.Step.{Step, begin_theorem, end_theorem, by_rule}
-use Rattle.core_proofs.specs.Proof.{IsProofScope, given_judgments, Standing, outside, within, Leads, Proves, one_step, no_step}
-use Rattle.core_proofs.proofs.Moving.{Begins, Ends, Applies, Follows, LeadsOn, leads_on}
+use Rattle.core_proofs.specs.Proof.{IsProofScope, given_judgments, Standing, outside, within, Leads, Proves}
+use Rattle.core_proofs.proofs.Moving.{Begins, Follows, leads_on}
 
 -- how far the theorems are: two for each ended one, and one for the one that was begun
 abbrev reached : Standing → ℕ

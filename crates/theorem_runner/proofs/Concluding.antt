@@ -1,29 +1,25 @@
 -- A derivation of the goal derives the instantiated conclusion.
-use Rattle.std.proofs.Common.{◌≡◌, ◌⊎◌, ℕ, zero, suc, ◌+◌, reverse, ◌<◌, List, [], ◌∷◌, ◌++◌, length, map, Option, Some, None, slice_get, unwrap_or, MatchOption, inl, inr, refl, ap, ◌∙◌, sym, subst, arith}
+use Rattle.std.proofs.Common.{◌≡◌, ◌⊎◌, ℕ, zero, suc, ◌+◌, reverse, List, [], ◌∷◌, ◌++◌, length, map, Some, None, slice_get, unwrap_or, refl, ap, ◌∙◌, sym, subst, arith}
 use Rattle.std.specs.List.{AllByRecursion, AllZip}
-use Rattle.std.proofs.lemmas.Option.{slice_get_within}
-use Rattle.binding_terms.specs.Numbered.{AllNumbered}
-use Rattle.binding_terms.specs.Tree.{Tree, var}
+use Rattle.binding_terms.specs.Tree.{var}
 use Rattle.binding_terms.specs.Scope.{IsTerm}
 use Rattle.binding_terms.proofs.Frames.{append_within}
-use Rattle.binding_terms.specs.Signature.{Signature}
 use Rattle.scheme_terms.specs.SchemeTree.{SchemeTree, meta, no_values, values}
 use Rattle.scheme_terms.specs.Forms.{Names, Instance, ContextValue, Substitution}
 use Rattle.scheme_terms.specs.Context.{IsValue, scope_of}
-use Rattle.scheme_terms.specs.Instance.{instance_of, value_of, argument_or_root, FitsScope, IsMetaValue}
+use Rattle.scheme_terms.specs.Instance.{instance_of, IsMetaValue}
 use Rattle.scheme_terms.specs.SchemeScope.{IsScheme, params_scope}
-use Rattle.scheme_terms.specs.Substituting.{applied, followed, followed_metas, params, parameters, IsSubstitution}
+use Rattle.scheme_terms.specs.Substituting.{applied, followed, followed_metas, params, parameters}
 use Rattle.scheme_terms.specs.declared.scheme.MetaDecl.{MetaDecl}
-use Rattle.scheme_terms.specs.declared.scheme.Root.TheVariants.{Closed}
 use Rattle.scheme_terms.proofs.Options.{zip_at, match_some}
 use Rattle.pattern_unify.proofs.PlainSchemes.{all_at}
 use Rattle.pattern_unify.proofs.Places.{numbered, numbered_at, within as place_within}
 use Rattle.rule_schemes.specs.Plain.{IsPlainSystem}
-use Rattle.rule_schemes.specs.Rules.{JudgmentScheme, JudgmentValue, Theory, IsInstance, AreClosed, judgment_instance}
+use Rattle.rule_schemes.specs.Rules.{JudgmentScheme, Theory, IsInstance, AreClosed, judgment_instance}
 use Rattle.rule_schemes.specs.Derivation.{Derivation, judgment, Derives}
-use Rattle.rule_schemes.specs.Statement.{Theorem, InputTree, IsInstantiation, DeriveConclusions, FitsFor, given_value, IsOfInputs, IsOfOutputs, IsStatementForm}
-use Rattle.core_proofs.specs.Plain.{IsPlainScope, IsPlainForm}
-use Rattle.core_proofs.specs.Proof.{IsProofScope, HasGoal, applied_judgment, itself}
+use Rattle.rule_schemes.specs.Statement.{Theorem, InputTree, DeriveConclusions, given_value, IsOfInputs, IsOfOutputs, IsStatementForm}
+use Rattle.core_proofs.specs.Plain.{IsPlainForm}
+use Rattle.core_proofs.specs.Proof.{IsProofScope, applied_judgment, itself}
 use Rattle.core_proofs.specs.Laws.{DerivesGoal}
 use Rattle.core_proofs.specs.Provable.{IsProvable}
 use Rattle.core_proofs.proofs.ClosedForms.{closed_form, no_value, instances_applied}

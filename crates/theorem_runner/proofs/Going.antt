@@ -1,9 +1,9 @@
 -- How a run goes on, step by step.
-use Rattle.std.proofs.Common.{◌≡◌, ℕ, zero, suc, ◌+◌, ◌<◌, ◌≤◌, List, [], ◌∷◌, ◌++◌, length, map, take, drop, get_or, Option, Some, None, slice_get, MatchOption, refl, ap, ◌∙◌, sym, subst, arith}
+use Rattle.std.proofs.Common.{◌≡◌, ℕ, ◌+◌, ◌<◌, ◌≤◌, List, [], ◌∷◌, ◌++◌, length, map, take, drop, get_or, Option, Some, None, slice_get, refl, ap, ◌∙◌, sym, subst, arith}
 use Rattle.std.specs.Prelude.{option_map}
 use Rattle.std.specs.List.{AllByRecursion, AllZip}
-use Rattle.std.proofs.lemmas.List.{length-append, length-map, drop_more, map-append, take_more, take-append-drop}
-use Rattle.std.proofs.lemmas.Option.{slice_get_within, slice_get-map, slice_get_read, slice_get-get_or, get_or_from_slice_get, same_Some}
+use Rattle.std.proofs.lemmas.List.{length-append, drop_more, map-append, take_more, take-append-drop}
+use Rattle.std.proofs.lemmas.Option.{slice_get_within, slice_get-map, slice_get_read, get_or_from_slice_get, same_Some}
 use Rattle.scheme_terms.specs.Forms.{Names, Instance, ContextValue}
 use Rattle.pattern_unify.proofs.Places.{within as place_within}
 use Rattle.rule_schemes.specs.Rules.{JudgmentScheme, Theory, judgment_instance}
@@ -21,7 +21,7 @@ use Rattle.core_proofs.proofs.Moving.{leads_on}
 use Rattle.theorem_runner.specs.Instances.{IsDerived, Gives}
 use Rattle.theorem_runner.specs.Laws.{ArePlainProofs}
 use Rattle.theorem_runner.specs.Runs.{IsRun, GoesOn, IsAtEnd}
-use Rattle.theorem_runner.proofs.Bodies.{HasBody, proof_of, one_body}
+use Rattle.theorem_runner.proofs.Bodies.{proof_of, one_body}
 use Rattle.theorem_runner.proofs.Values.{last_made}
 use Rattle.theorem_runner.proofs.ValueLaws.{given_count, body_leads, value_is_one, value_derives}
 

@@ -1,5 +1,5 @@
 -- Only one instance of the proof's scope gives the inputs.
-use Rattle.std.proofs.Common.{◌≡◌, ◌⊎◌, ℕ, ◌+◌, ◌<◌, ◌≤◌, List, [], ◌∷◌, length, map, Option, Some, None, slice_get, inl, inr, refl, ap, ◌∙◌, sym, subst, arith}
+use Rattle.std.proofs.Common.{◌≡◌, ◌⊎◌, ℕ, ◌+◌, ◌<◌, ◌≤◌, List, [], ◌∷◌, length, map, Option, slice_get, inl, inr, refl, ap, ◌∙◌, sym, subst, arith}
 use Rattle.std.specs.List.{AllByRecursion, AllZip}
 use Rattle.std.proofs.lemmas.Bool.{cases_lt}
 use Rattle.std.proofs.lemmas.List.{length-append}
@@ -9,7 +9,7 @@ use Rattle.binding_terms.specs.Numbered.{AnyByRecursion}
 use Rattle.binding_terms.specs.Signature.{Place}
 use Rattle.scheme_terms.specs.SchemeTree.{SchemeTree, StrictIn}
 use Rattle.scheme_terms.specs.Forms.{Names, Instance, ContextValue, KnownVariable}
-use Rattle.scheme_terms.specs.Instance.{instance_of, FitsScope, IsMetaValue, IsKnownPlace}
+use Rattle.scheme_terms.specs.Instance.{instance_of, IsMetaValue, IsKnownPlace}
 use Rattle.scheme_terms.specs.SchemeScope.{AreSchemes}
 use Rattle.scheme_terms.proofs.StrictAgreements.{strict_agreement_in_scope}
 use Rattle.pattern_unify.proofs.Places.{numbered_at, same_lists, within as place_within}

@@ -1,35 +1,33 @@
 -- The instances that give the inputs are those that make the pairs of the inputs equal.
-use Rattle.std.proofs.Common.{◌≡◌, ◌⊎◌, ℕ, zero, suc, ◌+◌, ◌<◌, ◌≤◌, List, [], ◌∷◌, ◌++◌, length, map, drop, append_assoc, Option, Some, None, slice_get, unwrap_or, MatchOption, inl, inr, refl, ap, ◌∙◌, sym, subst, arith}
+use Rattle.std.proofs.Common.{◌≡◌, ℕ, zero, suc, ◌+◌, ◌≤◌, List, [], ◌∷◌, ◌++◌, length, map, drop, append_assoc, Option, Some, None, slice_get, unwrap_or, inl, inr, refl, ap, ◌∙◌, sym, subst, arith}
 use Rattle.std.specs.Prelude.{option_map}
 use Rattle.std.specs.List.{AllByRecursion, AllZip}
 use Rattle.std.proofs.lemmas.List.{append-nil, drop_more, drop_all}
 use Rattle.std.proofs.lemmas.Option.{same_Some, get_or_from_slice_get, slice_get_within}
 use Rattle.std.proofs.lemmas.Slice.Zip.{AllZip-long}
-use Rattle.binding_terms.specs.Numbered.{AnyByRecursion, AllNumbered}
+use Rattle.binding_terms.specs.Numbered.{AnyByRecursion}
 use Rattle.binding_terms.specs.Signature.{slots}
 use Rattle.binding_terms.proofs.Frames.{append_within}
 use Rattle.scheme_terms.specs.Forms.{Names, Instance, ContextValue, KnownVariable}
 use Rattle.scheme_terms.specs.Context.{AreArguments, IsValue, scope_of}
-use Rattle.scheme_terms.specs.Instance.{FitsScope, IsMetaValue, IsKnownPlace}
+use Rattle.scheme_terms.specs.Instance.{IsMetaValue, IsKnownPlace}
 use Rattle.scheme_terms.specs.declared.scheme.MetaDecl.{MetaDecl}
 use Rattle.scheme_terms.specs.declared.scheme.Root.TheVariants.{Closed}
 use Rattle.scheme_terms.proofs.Options.{match_some, zip_at}
-use Rattle.pattern_unify.proofs.PlainSchemes.{all_at}
-use Rattle.pattern_unify.proofs.Places.{numbered, numbered_at, within as place_within}
+use Rattle.pattern_unify.proofs.Places.{numbered, numbered_at}
 use Rattle.rule_schemes.specs.Plain.{IsPlainSystem}
-use Rattle.rule_schemes.specs.Rules.{JudgmentScheme, JudgmentValue, Theory, IsJudgment, root_of, argument_slots}
+use Rattle.rule_schemes.specs.Rules.{JudgmentScheme, Theory, root_of, argument_slots}
 use Rattle.rule_schemes.specs.Derivation.{Derivation, judgment, Derives}
-use Rattle.rule_schemes.specs.Statement.{StatementInput, given, syntax_input, Theorem, InputTree, derived, term, IsGiven, given_value, FitsFor, IsInstantiation, IsOfInputs, StrictInInput, StrictInStatement}
+use Rattle.rule_schemes.specs.Statement.{StatementInput, given, syntax_input, Theorem, InputTree, derived, term, IsGiven, given_value, IsOfInputs, StrictInInput, StrictInStatement}
 use Rattle.rule_schemes.proofs.DerivationLemmas.{derives_a_judgment}
-use Rattle.scheme_match.specs.Matching.{Matched, judgments, terms, Matching, ArgumentsFit, MakesEqual, IsMatch, IsOnlyMatch, StrictInPair, AreStrict}
+use Rattle.scheme_match.specs.Matching.{Matched, judgments, Matching, ArgumentsFit, MakesEqual, IsMatch, IsOnlyMatch, StrictInPair, AreStrict}
 use Rattle.core_proofs.specs.Plain.{IsPlainForm}
 use Rattle.core_proofs.specs.Proof.{IsProofScope, given_judgments}
 use Rattle.core_proofs.specs.Provable.{IsProvable, IsOfDerivation}
-use Rattle.core_proofs.proofs.Keeping.{plain_scope}
 use Rattle.core_proofs.proofs.RuleFitting.{places, bare}
 use Rattle.theorem_runner.specs.Instances.{no_context_value, IsDerived, Gives, IsOnlyInstance, put_pair, input_pairs}
 use Rattle.theorem_runner.proofs.OneInstance.{no_places}
-use Rattle.theorem_runner.proofs.Restricting.{forms_plain, of_inputs_below}
+use Rattle.theorem_runner.proofs.Restricting.{of_inputs_below}
 
 -- what is known of the pairs so far, one input on
 module _ {A B : Type 0} (f : A → StatementInput) (g : B → InputTree) (ins : List A) (outs : List B) (i : ℕ) (a : A) (b : B) (here : slice_get ins i ≡ Some a) (there : slice_get outs i ≡ Some b) where

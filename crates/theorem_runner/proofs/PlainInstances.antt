@@ -1,16 +1,15 @@
 -- The instance of a form without a context depends on the values of its names alone.
 use Rattle.std.proofs.Common.{◌≡◌, ℕ, ◌<◌, List, [], ◌∷◌, length, map, inl, inr, refl, ap, ◌∙◌, sym, subst}
-use Rattle.std.specs.List.{AllByRecursion}
 use Rattle.binding_terms.specs.Numbered.{AnyByRecursion}
 use Rattle.binding_terms.specs.Signature.{Place}
 use Rattle.scheme_terms.specs.SchemeTree.{SchemeTree, meta, known, local, con, Parts, no_parts, part, OccursIn, OccursInValues, OccursInParts, KnownIn, KnownInValues, KnownInParts}
-use Rattle.scheme_terms.specs.Forms.{Names, Instance, ContextValue}
-use Rattle.scheme_terms.specs.Instance.{instance_of, value_of, place_of}
+use Rattle.scheme_terms.specs.Forms.{Names, Instance}
+use Rattle.scheme_terms.specs.Instance.{instance_of, value_of}
 use Rattle.scheme_terms.specs.SchemeScope.{IsScheme, AreSchemes}
 use Rattle.scheme_terms.proofs.Agreements.{instances_agree}
 use Rattle.pattern_unify.proofs.PlainSchemes.{IsPlain, ArePlain, plain_scheme}
 use Rattle.rule_schemes.specs.Plain.{IsPlainSystem}
-use Rattle.rule_schemes.specs.Rules.{JudgmentScheme, JudgmentValue, Theory, judgment_instance, StrictInEntries}
+use Rattle.rule_schemes.specs.Rules.{JudgmentScheme, Theory, judgment_instance}
 use Rattle.rule_schemes.specs.Statement.{OccursInJudgment}
 use Rattle.core_proofs.specs.Plain.{IsPlainScope, IsPlainForm}
 use Rattle.core_proofs.proofs.ClosedForms.{closed_form, no_value}

@@ -1,23 +1,20 @@
 -- An instance that gives the inputs, restricted to the names in them.
-use Rattle.std.proofs.Common.{◌↔◌, IsTrue, is_some, ◌≡◌, ℕ, zero, suc, ◌+◌, ◌<◌, List, [], ◌∷◌, ◌++◌, length, Option, Some, None, slice_get, unwrap_or, MatchOption, inl, inr, refl, ap, ◌∙◌, sym, subst, arith}
+use Rattle.std.proofs.Common.{◌↔◌, IsTrue, is_some, ◌≡◌, ℕ, zero, suc, ◌+◌, ◌<◌, List, [], ◌∷◌, ◌++◌, length, Option, Some, None, slice_get, unwrap_or, inl, inr, refl, ap, ◌∙◌, sym, subst, arith}
 use Rattle.std.specs.List.{AllByRecursion, AllZip}
-use Rattle.std.proofs.lemmas.Option.{slice_get_within}
 use Rattle.binding_terms.specs.Numbered.{AnyByRecursion, AllNumbered}
 use Rattle.binding_terms.specs.Tree.{Tree, var}
 use Rattle.scheme_terms.specs.Forms.{Names, Instance, ContextValue}
 use Rattle.scheme_terms.specs.Context.{IsValue}
 use Rattle.scheme_terms.specs.Instance.{value_of, FitsScope, IsMetaValue, IsKnownPlace}
 use Rattle.scheme_terms.specs.declared.scheme.MetaDecl.{MetaDecl}
-use Rattle.pattern_unify.proofs.Places.{numbered, numbered_at, within as place_within}
+use Rattle.pattern_unify.proofs.Places.{numbered, numbered_at}
 use Rattle.rule_schemes.specs.Plain.{IsPlainSystem}
-use Rattle.rule_schemes.specs.Rules.{JudgmentScheme, JudgmentValue, Theory, IsInstance}
-use Rattle.rule_schemes.specs.Derivation.{judgment, Derives}
+use Rattle.rule_schemes.specs.Rules.{Theory}
 use Rattle.rule_schemes.specs.Statement.{StatementInput, given, syntax_input, Theorem, InputTree, derived, term, IsGiven, given_value, FitsFor, IsInstantiation, Instantiates, IsOfInputs, OccursInInput}
-use Rattle.core_proofs.specs.Plain.{IsPlainScope, IsPlainForm}
+use Rattle.core_proofs.specs.Plain.{IsPlainForm}
 use Rattle.core_proofs.specs.Proof.{IsProofScope, given_judgments}
 use Rattle.core_proofs.specs.Provable.{IsProvable, IsOfDerivation}
 use Rattle.core_proofs.proofs.Keeping.{plain_scope, plain_beginning}
-use Rattle.core_proofs.proofs.Moving.{is_front}
 use Rattle.theorem_runner.specs.Instances.{Gives, IsOnlyInstance}
 use Rattle.theorem_runner.proofs.PlainInstances.{names_below, same_judgment}
 

@@ -1,19 +1,19 @@
 -- A theorem has one value on inputs that instantiate it, and this derives the conclusion.
-use Rattle.std.proofs.Common.{◌≡◌, ℕ, zero, suc, List, [], ◌∷◌, length, Option, Some, None, slice_get, refl, ap, ◌∙◌, sym, subst, arith}
+use Rattle.std.proofs.Common.{◌≡◌, ℕ, suc, List, [], ◌∷◌, length, Some, None, slice_get, refl, ap, ◌∙◌, sym, subst}
 use Rattle.std.specs.List.{AllByRecursion, AllZip}
 use Rattle.std.proofs.lemmas.Option.{same_Some}
 use Rattle.scheme_terms.specs.Forms.{Names, Instance, ContextValue}
 use Rattle.scheme_terms.specs.declared.scheme.Root.TheVariants.{Closed}
 use Rattle.pattern_unify.proofs.PlainSchemes.{all_at}
 use Rattle.rule_schemes.specs.Plain.{IsPlainSystem}
-use Rattle.rule_schemes.specs.Rules.{JudgmentScheme, Rule, Theory, IsInstance, IsJudgmentScheme, rule_names}
-use Rattle.rule_schemes.specs.Derivation.{Derivation, judgment, Derives}
-use Rattle.rule_schemes.specs.Statement.{StatementInput, given, syntax_input, Theorem, InputTree, derived, term, IsGiven, IsInstantiation, DeriveConclusions, given_value, IsOfInputs}
+use Rattle.rule_schemes.specs.Rules.{JudgmentScheme, Rule, Theory, IsJudgmentScheme, rule_names}
+use Rattle.rule_schemes.specs.Derivation.{Derivation}
+use Rattle.rule_schemes.specs.Statement.{StatementInput, given, syntax_input, Theorem, InputTree, derived, term, IsGiven, IsInstantiation, DeriveConclusions, given_value}
 use Rattle.core_proofs.specs.Laws.{SpeaksOfNoContext, AreDerived, DerivesGoal}
-use Rattle.core_proofs.specs.Plain.{IsPlainForm, IsPlainRule}
-use Rattle.core_proofs.specs.Step.{Step, begin_theorem}
-use Rattle.core_proofs.specs.Proof.{IsProofScope, given_judgments, Standing, outside, within, Leads, Proves}
-use Rattle.core_proofs.specs.Provable.{IsProvable, IsOfDerivation}
+use Rattle.core_proofs.specs.Plain.{IsPlainForm}
+use Rattle.core_proofs.specs.Step.{Step}
+use Rattle.core_proofs.specs.Proof.{IsProofScope, given_judgments, outside, within, Leads}
+use Rattle.core_proofs.specs.Provable.{IsProvable}
 use Rattle.core_proofs.specs.Value.{given_trees, Makes, HasValue}
 use Rattle.core_proofs.proofs.Made.{makes_derives}
 use Rattle.core_proofs.proofs.Moving.{one_scope}

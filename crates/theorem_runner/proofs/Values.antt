@@ -1,6 +1,5 @@
 -- What the steps of a proof make: something, and one thing only.
-use Rattle.std.proofs.Common.{◌≡◌, ℕ, zero, suc, ◌+◌, ◌<◌, ◌≤◌, List, [], ◌∷◌, ◌++◌, length, Option, Some, None, is_some, true, slice_get, MatchOption, refl, ap, ◌∙◌, sym, subst, arith}
-use Rattle.std.specs.List.{AllByRecursion, AllZip}
+use Rattle.std.proofs.Common.{◌≡◌, ℕ, List, [], ◌∷◌, ◌++◌, length, Option, Some, None, slice_get, refl, ◌∙◌, sym, subst, arith}
 use Rattle.std.proofs.lemmas.List.{length-append}
 use Rattle.std.proofs.lemmas.Option.{slice_get_within, same_Some}
 use Rattle.scheme_terms.specs.Forms.{Names, Instance}
@@ -12,7 +11,7 @@ use Rattle.core_proofs.specs.RuleStep.{AreCited}
 use Rattle.core_proofs.specs.Step.{Step, begin_theorem, end_theorem, by_rule}
 use Rattle.core_proofs.specs.Proof.{Standing, outside, within, Leads}
 use Rattle.core_proofs.specs.Value.{subtrees, AreCitedTrees, Makes, makes_node, makes_last}
-use Rattle.core_proofs.proofs.Moving.{Ends, Applies, leads_on}
+use Rattle.core_proofs.proofs.Moving.{leads_on}
 use Rattle.theorem_runner.specs.Runs.{GoesWith}
 
 -- what the first step makes, and the rest

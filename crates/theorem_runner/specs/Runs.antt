@@ -1,5 +1,5 @@
 -- What a run gives. To be held against docs/notation.md, 'Runs'.
-use Rattle.std.specs.Prelude.{◌≡◌, ◌<◌, ℕ, List, [], ◌∷◌, ◌++◌, length, Option, Some, None, slice_get, MatchOption}
+use Rattle.std.specs.Prelude.{◌≡◌, ℕ, List, [], ◌∷◌, ◌++◌, length, Option, Some, None, slice_get, MatchOption}
 use Rattle.scheme_terms.specs.Forms.{ContextValue, Names, Instance}
 use Rattle.rule_schemes.specs.Rules.{JudgmentScheme, Theory}
 use Rattle.rule_schemes.specs.Derivation.{Derivation}

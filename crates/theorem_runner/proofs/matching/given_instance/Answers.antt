@@ -1,4 +1,4 @@
-use Rattle.std.proofs.Common.{None, subst}
+use Rattle.std.proofs.Common.{subst}
 use Rattle.std.specs.Prelude.{option_map}
 use Rattle.scheme_terms.specs.View.{names, context_value, instance}
 use Rattle.rule_schemes.specs.View.{theory, statement}

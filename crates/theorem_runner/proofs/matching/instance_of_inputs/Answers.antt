@@ -1,4 +1,4 @@
-use Rattle.std.proofs.Common.{List, get_or, ◌≡◌, ◌≤◌, ◌<◌, ◌++◌, ◌∷◌, [], length, map, Some, None, IfOk, slice_get, refl, ap, sym, subst, ◌∙◌, arith}
+use Rattle.std.proofs.Common.{List, get_or, ◌≡◌, ◌<◌, ◌++◌, ◌∷◌, [], length, map, Some, slice_get, refl, ap, sym, subst, ◌∙◌, arith}
 use Rattle.std.specs.Prelude.{option_map, vec_len}
 use Rattle.std.specs.List.{AllByRecursion}
 use Rattle.std.proofs.lemmas.List.{length-map}
@@ -8,7 +8,7 @@ use Rattle.scheme_terms.specs.View.{names, context_value, instance}
 use Rattle.scheme_terms.specs.declared.scheme.MetaDecl.{MetaDecl}
 use Rattle.rule_schemes.specs.View.{theory, statement, statement_input, judgment_scheme, judgment_value}
 use Rattle.rule_schemes.specs.Derivation.{judgment, Derives}
-use Rattle.rule_schemes.specs.Statement.{StatementInput, InputTree, given, syntax_input, derived, term}
+use Rattle.rule_schemes.specs.Statement.{given, syntax_input, derived, term}
 use Rattle.binding_terms.specs.View.{tree}
 use Rattle.binding_terms.specs.Numbered.{AllNumbered, AnyByRecursion}
 use Rattle.pattern_unify.proofs.PlainSchemes.{all_at}

@@ -1,8 +1,7 @@
-use Rattle.std.proofs.Common.{◌≡◌, ◌<◌, ◌+◌, ℕ, List, length, map, take, drop, get_or, Some, slice_get, refl, ap, sym, subst, ◌∙◌, arith}
+use Rattle.std.proofs.Common.{◌≡◌, ◌<◌, length, map, get_or, Some, slice_get, refl, ap, sym, subst, ◌∙◌}
 use Rattle.std.specs.List.{AllByRecursion}
 use Rattle.std.proofs.lemmas.List.{take_all, drop_more}
 use Rattle.std.proofs.lemmas.Option.{slice_get_read, slice_get-get_or}
-use Rattle.rule_schemes.specs.Derivation.{Derivation}
 use Rattle.core_proofs.specs.declared.step.StepId.{StepId}
 use Rattle.theorem_runner.proofs.Going.{are_cited, cited_more}
 use Rattle.theorem_runner.proofs.running.cited_trees.Goals as goal

@@ -1,13 +1,10 @@
-use Rattle.std.proofs.Common.{◌≡◌, ◌≤◌, ◌<◌, ◌+◌, ◌++◌, ◌∷◌, [], ℕ, List, length, map, drop, Some, None, IfOk, slice_get, refl, ap, sym, subst, ◌∙◌}
-use Rattle.std.specs.List.{AllByRecursion}
+use Rattle.std.proofs.Common.{◌≡◌, ◌≤◌, ◌+◌, length, map, drop, Some, slice_get, ap, sym, subst, ◌∙◌}
 use Rattle.std.proofs.lemmas.List.{drop_all, length-map}
 use Rattle.scheme_terms.specs.View.{instance}
-use Rattle.rule_schemes.specs.Derivation.{Derivation}
 use Rattle.rule_schemes.specs.View.{judgment_scheme}
 use Rattle.core_proofs.specs.Kept.{kept_theory, kept_statements, kept_steps}
-use Rattle.core_proofs.specs.Step.{Step, begin_theorem, end_theorem, by_rule}
+use Rattle.core_proofs.specs.Step.{begin_theorem, end_theorem, by_rule}
 use Rattle.core_proofs.specs.View.{step}
-use Rattle.core_proofs.specs.Value.{Makes}
 use Rattle.theorem_runner.specs.Runs.{GoesOn}
 use Rattle.theorem_runner.proofs.Going.{step_at, next_step, going_bounds, going_rule, going_end, going_some, going_within, going_unended}
 use Rattle.theorem_runner.proofs.running.make.Goals as goal

@@ -1,7 +1,6 @@
-use Rattle.std.proofs.Common.{◌≤◌, map, drop}
+use Rattle.std.proofs.Common.{drop}
 use Rattle.scheme_terms.specs.View.{instance}
 use Rattle.core_proofs.specs.Kept.{kept_theory, kept_statements, kept_steps}
-use Rattle.core_proofs.specs.View.{step}
 use Rattle.theorem_runner.specs.Runs.{GoesOn}
 use Rattle.theorem_runner.proofs.running.make.Given as goal
 

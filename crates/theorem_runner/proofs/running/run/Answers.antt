@@ -1,7 +1,6 @@
-use Rattle.std.proofs.Common.{◌≡◌, ◌<◌, ◌+◌, ◌++◌, ◌∷◌, [], List, length, map, drop, Some, None, slice_get, Fits, w64, refl, ap, sym, subst, ◌∙◌, arith}
-use Rattle.std.specs.Prelude.{option_map, vec_len}
-use Rattle.std.proofs.lemmas.List.{length-map}
-use Rattle.std.proofs.lemmas.Option.{slice_get_read, slice_get-map, slice_get_within}
+use Rattle.std.proofs.Common.{◌≡◌, ◌<◌, ◌+◌, ◌++◌, ◌∷◌, [], List, length, drop, Some, None, slice_get, refl, ap, sym, subst, ◌∙◌, arith}
+use Rattle.std.specs.Prelude.{option_map}
+use Rattle.std.proofs.lemmas.Option.{slice_get_read, slice_get-map}
 use Rattle.scheme_terms.specs.View.{names, context_value, instance}
 use Rattle.scheme_terms.proofs.Options.{match_at}
 use Rattle.pattern_unify.proofs.PlainSchemes.{all_at}
@@ -12,8 +11,7 @@ use Rattle.rule_schemes.specs.View.{theory, statement}
 use Rattle.rule_schemes.specs.Statement.{Instantiates}
 use Rattle.core_proofs.specs.Kept.{kept_theory, kept_statements, kept_steps}
 use Rattle.core_proofs.specs.Provable.{IsProvable}
-use Rattle.core_proofs.specs.Value.{Makes, given_trees}
-use Rattle.core_proofs.specs.View.{step}
+use Rattle.core_proofs.specs.Value.{Makes}
 use Rattle.theorem_runner.specs.Instances.{Gives}
 use Rattle.theorem_runner.specs.Laws.{ArePlainProofs}
 use Rattle.theorem_runner.specs.Runs.{GoesOn}
