@@ -126,10 +126,6 @@ module _ (i : Inside) (is : IsProving (kept_of i) (standing i.inside i.ended (na
   pub refuse_end_silent : (line : ℕ) → inside ≡ true → form_at forms last ≡ None → IsRefused kept (end_theorem line)
   refuse_end_silent line e silent = refuse (end_theorem line) true e (λ to f. let some = f.last_is in let no : ⊥ = cc in no)
 
-  pub refuse_end_past : (line : ℕ) → inside ≡ true → slice_get kept.statements ended ≡ None → IsRefused kept (end_theorem line)
-  refuse_end_past line e past =
-      refuse (end_theorem line) true e (λ to f. let none = no_statement_at kept ended past in let some = f.here in let no : ⊥ = cc in no)
-
   pub refuse_end_goal : (line : ℕ) (form : JudgmentScheme) (st : Statement) → inside ≡ true → form_at forms last ≡ Some form → slice_get kept.statements ended ≡ Some st →
       (HasGoal (kept_theory kept) (statement st) scope form → ⊥) → IsRefused kept (end_theorem line)
   refuse_end_goal line form st e said here other =
@@ -175,6 +171,13 @@ module _ (i : Inside) (is : IsProving (kept_of i) (standing i.inside i.ended (na
   plain_here system e =
       let got = match_some (slice_get (kept_statements kept) ended) (λ st. IsPlainProof (kept_theory kept) st scope forms (form_at forms last)) (plain_within system e) in
       (got.0, got.2)
+
+  pub stated_within : IsPlainSystem (kept_theory kept) → inside ≡ true → slice_get kept.statements ended ≡ None → ⊥
+  stated_within system e past =
+      let got = match_some (slice_get (kept_statements kept) ended) (λ st. IsPlainProof (kept_theory kept) st scope forms (form_at forms last)) (plain_within system e) in
+      let none = no_statement_at kept ended past in
+      let some = got.1 in
+      let no : ⊥ = cc in no
 
   pub plain_last : IsPlainSystem (kept_theory kept) → inside ≡ true → (form : JudgmentScheme) → form_at forms last ≡ Some form → IsPlainForm (kept_theory kept) scope form
   plain_last system e form said =
