@@ -22,10 +22,10 @@ use Rattle.core_proofs.specs.declared.proving.Proving.TheInside.{Inside}
 use Rattle.core_proofs.specs.Step.{Step, begin_theorem, end_theorem, by_rule}
 use Rattle.core_proofs.specs.View.{step}
 use Rattle.core_proofs.specs.Proof.{IsProofScope, HasGoal, Standing, outside, within, Leads, Proves, given_judgments}
-use Rattle.core_proofs.specs.Provable.{IsProvable, IsPlainProof, StandsPlainly, IsRightByRule}
+use Rattle.core_proofs.specs.Provable.{IsProvable, IsRightByRule}
 use Rattle.core_proofs.specs.Kept.{Kept, kept_theory, kept_statements, kept_steps, form_at, standing, IsProving, IsAccepted}
 use Rattle.core_proofs.proofs.Moving.{Follows, leads_more, no_more, one_end}
-use Rattle.core_proofs.proofs.Keeping.{all_keep}
+use Rattle.core_proofs.proofs.Keeping.{IsPlainProof, StandsPlainly, all_keep}
 
 -- no step of this kind is right where the steps so far stand
 abbrev pub IsRefused : Kept → Step → Type 0

@@ -3,6 +3,7 @@ pub mod Concluding
 pub mod Going
 pub mod OneInstance
 pub mod Pairing
+pub mod Pairs
 pub mod PlainInstances
 pub mod Restricting
 pub mod ValueLaws

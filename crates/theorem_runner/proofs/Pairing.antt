@@ -25,7 +25,8 @@ use Rattle.core_proofs.specs.Plain.{IsPlainForm}
 use Rattle.core_proofs.specs.Proof.{IsProofScope, given_judgments}
 use Rattle.core_proofs.specs.Provable.{IsProvable, IsOfDerivation}
 use Rattle.core_proofs.proofs.RuleFitting.{places, bare}
-use Rattle.theorem_runner.specs.Instances.{no_context_value, IsDerived, Gives, IsOnlyInstance, put_pair, input_pairs}
+use Rattle.theorem_runner.specs.Instances.{no_context_value, IsDerived, Gives, IsOnlyInstance}
+use Rattle.theorem_runner.proofs.Pairs.{put_pair, input_pairs}
 use Rattle.theorem_runner.proofs.OneInstance.{no_places}
 use Rattle.theorem_runner.proofs.Restricting.{of_inputs_below}
 

@@ -1,11 +1,10 @@
 -- The instance of a theorem's inputs. To be held against docs/notation.md, 'Runs'.
-use Rattle.std.specs.Prelude.{◌≡◌, List, [], ◌∷◌, Option, Some, None}
+use Rattle.std.specs.Prelude.{◌≡◌, List, [], Option, Some, None}
 use Rattle.scheme_terms.specs.Forms.{ContextValue, Names, Instance}
 use Rattle.scheme_terms.specs.Instance.{FitsScope}
 use Rattle.rule_schemes.specs.Rules.{Theory}
-use Rattle.rule_schemes.specs.Derivation.{judgment, Derives}
+use Rattle.rule_schemes.specs.Derivation.{Derives}
 use Rattle.rule_schemes.specs.Statement.{StatementInput, given, Theorem, InputTree, derived, term, IsInstantiation}
-use Rattle.scheme_match.specs.Matching.{Matched, judgments}
 
 -- the value of no context
 abbrev pub no_context_value : ContextValue
@@ -25,13 +24,3 @@ abbrev pub IsOnlyInstance : Theory → Theorem → Names → ContextValue → Li
 IsOnlyInstance th st scope v xs None = (inst : Instance) → Gives th st scope v xs inst → ⊥
 IsOnlyInstance th st scope v xs (Some inst) =
     Gives th st scope v xs inst × ((other : Instance) → Gives th st scope v xs other → other ≡ inst)
-
--- the inputs with what is given for them, unless a term is among them or there are more of one kind
-abbrev pub put_pair : Matched → Option (List Matched) → Option (List Matched)
-put_pair p None = None
-put_pair p (Some ps) = Some (p ∷ ps)
-
-abbrev pub input_pairs : List StatementInput → List InputTree → Option (List Matched)
-input_pairs [] [] = Some []
-input_pairs (given j ∷ inputs) (derived d ∷ xs) = put_pair (judgments j (judgment d)) (input_pairs inputs xs)
-input_pairs _ _ = None

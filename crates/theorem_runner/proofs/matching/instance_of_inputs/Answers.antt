@@ -18,7 +18,8 @@ use Rattle.scheme_match.specs.Matching.{Matching, judgments, StrictInPair, IsOnl
 use Rattle.core_proofs.specs.Plain.{IsPlainForm}
 use Rattle.core_proofs.proofs.Keeping.{plain_scope}
 use Rattle.core_proofs.proofs.RuleFitting.{bare}
-use Rattle.theorem_runner.specs.Instances.{IsDerived, IsOnlyInstance, input_pairs}
+use Rattle.theorem_runner.specs.Instances.{IsDerived, IsOnlyInstance}
+use Rattle.theorem_runner.proofs.Pairs.{input_pairs}
 use Rattle.theorem_runner.specs.View.{input_tree, input_trees}
 use Rattle.theorem_runner.proofs.Pairing.{uncounted, unpaired, pairs_stop, pairs_more, pairs_end, given_at, arguments_fit, are_strict, only_instance}
 use Rattle.theorem_runner.proofs.Restricting.{forms_plain}

@@ -2,7 +2,7 @@ use Rattle.std.proofs.Common.{◌≡◌, ◌++◌, [], map, drop}
 use Rattle.std.specs.Prelude.{option_map}
 use Rattle.scheme_terms.specs.View.{context_value}
 use Rattle.rule_schemes.specs.View.{statement_input}
-use Rattle.theorem_runner.specs.Instances.{input_pairs}
+use Rattle.theorem_runner.proofs.Pairs.{input_pairs}
 use Rattle.theorem_runner.specs.View.{input_tree}
 use Rattle.theorem_runner.proofs.matching.instance_of_inputs.Given as goal
 
