@@ -1,7 +1,8 @@
 -- The forms of cited steps by their numbers.
 use Rattle.std.proofs.Common.{◌≡◌, ℕ, ◌+◌, ◌<◌, Bor, List, [], ◌∷◌, ◌++◌, length, map, drop, get_or, append_assoc, Option, Some, None, slice_get, refl, ap, ◌∙◌, sym, subst}
 use Rattle.std.specs.Prelude.{option_map}
-use Rattle.std.proofs.lemmas.List.{drop_more, map-append}
+use Rattle.std.proofs.lemmas.List.{drop_more, map-append, length-map}
+use Rattle.std.proofs.lemmas.Slice.Zip.{AllZip-long}
 use Rattle.std.proofs.lemmas.Option.{slice_get-map, same_Some}
 use Rattle.scheme_terms.specs.Forms.{Names}
 use Rattle.rule_schemes.specs.View.{judgment_scheme}
@@ -11,7 +12,8 @@ use Rattle.std.specs.List.{AllByRecursion}
 use Rattle.pattern_unify.proofs.PlainSchemes.{all_at}
 use Rattle.rule_schemes.specs.Rules.{JudgmentScheme, Rule, Theory}
 use Rattle.core_proofs.specs.FormEquations.{put_first, cited_forms}
-use Rattle.core_proofs.specs.RuleStep.{AreCited, IsRuleInstance}
+use Rattle.core_proofs.specs.RuleStep.{form_in, IsRaisedTo, AreCited, IsRuleInstance}
+use Rattle.core_proofs.specs.Plain.{IsPlainRule}
 use Rattle.core_proofs.specs.Proof.{IsStepForm}
 use Rattle.core_proofs.specs.Provable.{IsRightByRule}
 
@@ -96,3 +98,13 @@ module _ (th : Theory) (scope : Names) (scoped : List JudgmentScheme) (form : Ju
         let same : right.rule ≡ rule = same_Some right.rule rule (sym right.here ∙ here) in
         let forms : right.cited ≡ cited = same_Some right.cited cited (sym (are_cited scoped on right.cited right.cited_are) ∙ some) in
         subst (IsRuleInstance th scope form cited) same (subst (λ (js : List JudgmentScheme). IsRuleInstance th scope form js right.rule) forms right.is_instance)
+
+  -- as many steps are cited as the rule has premises
+  pub cited_count : (rule : Rule) → slice_get th.rules r ≡ Some rule → IsPlainRule th rule → IsRightByRule th scope scoped form r on → length rule.premises ≡ length on
+  cited_count rule here plain right =
+      let same : right.rule ≡ rule = same_Some right.rule rule (sym right.here ∙ here) in
+      let is = subst (IsRuleInstance th scope form right.cited) same right.is_instance in
+      let raised : is.higher ≡ rule = subst (λ x. IsRaisedTo th.sig form.context x rule is.higher) plain.conclusion.root is.raised in
+      let long : length is.higher.premises ≡ length right.cited = sym (length-map is.higher.premises (form_in form.context is.by)) ∙ ap length is.premises in
+      let counted : length right.cited ≡ length on = AllZip-long (λ n j. slice_get scoped n ≡ Some j) on right.cited right.cited_are in
+      ap (λ (x : Rule). length x.premises) (sym raised) ∙ long ∙ counted

@@ -1,5 +1,6 @@
 -- Where right proofs of statements stand, the scope and the forms are plain.
-use Rattle.std.proofs.Common.{◌≡◌, ℕ, List, [], ◌∷◌, ◌++◌, length, take, Some, None, slice_get, inl, inr, ap, ◌∙◌, sym, subst}
+use Rattle.std.specs.Prelude.{Option}
+use Rattle.std.proofs.Common.{MatchOption, ◌≡◌, ℕ, List, [], ◌∷◌, ◌++◌, length, take, Some, None, slice_get, inl, inr, ap, ◌∙◌, sym, subst}
 use Rattle.std.proofs.Math.Seq.{take-append_seam}
 use Rattle.std.specs.List.{AllByRecursion}
 use Rattle.binding_terms.specs.Numbered.{AnyByRecursion}
@@ -15,9 +16,20 @@ use Rattle.rule_schemes.specs.Statement.{StatementInput, given, syntax_input, Th
 use Rattle.core_proofs.specs.Plain.{IsPlainScope, IsPlainForm}
 use Rattle.core_proofs.specs.Step.{Step, begin_theorem, end_theorem, by_rule}
 use Rattle.core_proofs.specs.Proof.{IsProofScope, given_judgments, Standing, outside, within, Leads}
-use Rattle.core_proofs.specs.Provable.{IsProvable, IsPlainProof, StandsPlainly, CountsInputs}
+use Rattle.core_proofs.specs.Provable.{IsProvable, CountsInputs}
 use Rattle.core_proofs.proofs.Moving.{Follows, leads_on, counted, is_front}
 use Rattle.core_proofs.proofs.PlainForms.{form_in_front, plain_form}
+
+-- The scope of a proof that was begun, the forms in scope and the last form: nothing binds, and there is no context.
+pub record IsPlainProof (th : Theory) (st : Theorem) (scope : Names) (scoped : List JudgmentScheme) (last : Option JudgmentScheme) : Type 0 where
+  pub begun : IsProofScope st scope
+  pub names : IsPlainScope scope
+  pub forms : AllByRecursion (IsPlainForm th scope) scoped
+  pub last_form : MatchOption last (Unit {0}) (IsPlainForm th scope)
+
+abbrev pub StandsPlainly : Theory → List Theorem → Standing → Type 0
+StandsPlainly th sts (outside k) = Unit {0}
+StandsPlainly th sts (within k scope scoped last) = MatchOption (slice_get sts k) ⊥ (λ st. IsPlainProof th st scope scoped last)
 
 -- the scope of as many of the statement's names as stand in inputs
 pub counted_scope : (st : Theorem) (given_scope : (scope : Names) × IsProofScope st scope) (n : ℕ) (scope : Names) → CountsInputs st n →

@@ -22,10 +22,10 @@ use Rattle.core_proofs.specs.declared.proving.Proving.TheInside.{Inside}
 use Rattle.core_proofs.specs.Step.{Step, begin_theorem, end_theorem, by_rule}
 use Rattle.core_proofs.specs.View.{step}
 use Rattle.core_proofs.specs.Proof.{IsProofScope, HasGoal, Standing, outside, within, Leads, Proves, given_judgments}
-use Rattle.core_proofs.specs.Provable.{IsProvable, IsPlainProof, StandsPlainly, IsRightByRule}
+use Rattle.core_proofs.specs.Provable.{IsProvable, IsRightByRule}
 use Rattle.core_proofs.specs.Kept.{Kept, kept_theory, kept_statements, kept_steps, form_at, standing, IsProving, IsAccepted}
 use Rattle.core_proofs.proofs.Moving.{Follows, leads_more, no_more, one_end}
-use Rattle.core_proofs.proofs.Keeping.{all_keep}
+use Rattle.core_proofs.proofs.Keeping.{IsPlainProof, StandsPlainly, all_keep}
 
 -- no step of this kind is right where the steps so far stand
 abbrev pub IsRefused : Kept → Step → Type 0
@@ -126,10 +126,6 @@ module _ (i : Inside) (is : IsProving (kept_of i) (standing i.inside i.ended (na
   pub refuse_end_silent : (line : ℕ) → inside ≡ true → form_at forms last ≡ None → IsRefused kept (end_theorem line)
   refuse_end_silent line e silent = refuse (end_theorem line) true e (λ to f. let some = f.last_is in let no : ⊥ = cc in no)
 
-  pub refuse_end_past : (line : ℕ) → inside ≡ true → slice_get kept.statements ended ≡ None → IsRefused kept (end_theorem line)
-  refuse_end_past line e past =
-      refuse (end_theorem line) true e (λ to f. let none = no_statement_at kept ended past in let some = f.here in let no : ⊥ = cc in no)
-
   pub refuse_end_goal : (line : ℕ) (form : JudgmentScheme) (st : Statement) → inside ≡ true → form_at forms last ≡ Some form → slice_get kept.statements ended ≡ Some st →
       (HasGoal (kept_theory kept) (statement st) scope form → ⊥) → IsRefused kept (end_theorem line)
   refuse_end_goal line form st e said here other =
@@ -175,6 +171,13 @@ module _ (i : Inside) (is : IsProving (kept_of i) (standing i.inside i.ended (na
   plain_here system e =
       let got = match_some (slice_get (kept_statements kept) ended) (λ st. IsPlainProof (kept_theory kept) st scope forms (form_at forms last)) (plain_within system e) in
       (got.0, got.2)
+
+  pub stated_within : IsPlainSystem (kept_theory kept) → inside ≡ true → slice_get kept.statements ended ≡ None → ⊥
+  stated_within system e past =
+      let got = match_some (slice_get (kept_statements kept) ended) (λ st. IsPlainProof (kept_theory kept) st scope forms (form_at forms last)) (plain_within system e) in
+      let none = no_statement_at kept ended past in
+      let some = got.1 in
+      let no : ⊥ = cc in no
 
   pub plain_last : IsPlainSystem (kept_theory kept) → inside ≡ true → (form : JudgmentScheme) → form_at forms last ≡ Some form → IsPlainForm (kept_theory kept) scope form
   plain_last system e form said =

@@ -44,7 +44,7 @@ closed_root : (j : JudgmentScheme) → j ≡ closed_form j.judgment j.args → j
 closed_root j e = ap (λ (f : JudgmentScheme). f.context.root) e
 
 -- the values of a rule's metavariables under a substitution followed by an instance
-metas_fit : (sig : Signature) (scope : Names) (inst given : Instance) → given.root ≡ inst.root → scope.knowns ≡ [] → FitsScope sig scope inst →
+pub metas_fit : (sig : Signature) (scope : Names) (inst given : Instance) → given.root ≡ inst.root → scope.knowns ≡ [] → FitsScope sig scope inst →
     (decls : List MetaDecl) (ss : List SchemeTree) → AllZip (λ decl s. IsScheme sig scope (params_scope decl) decl.cat.0 s) decls ss →
     AllZip (IsMetaValue sig given) decls (followed_metas decls ss inst)
 metas_fit sig scope inst given same none fits [] [] h = tt

@@ -39,17 +39,6 @@ pub record IsRightByRule (th : Theory) (scope : Names) (scoped : List JudgmentSc
   pub here : slice_get th.rules r ≡ Some rule
   pub is_instance : IsRuleInstance th scope form cited rule
 
--- The scope of a proof that was begun, the forms in scope and the last form: nothing binds, and there is no context.
-pub record IsPlainProof (th : Theory) (st : Theorem) (scope : Names) (scoped : List JudgmentScheme) (last : Option JudgmentScheme) : Type 0 where
-  pub begun : IsProofScope st scope
-  pub names : IsPlainScope scope
-  pub forms : AllByRecursion (IsPlainForm th scope) scoped
-  pub last_form : MatchOption last (Unit {0}) (IsPlainForm th scope)
-
-abbrev pub StandsPlainly : Theory → List Theorem → Standing → Type 0
-StandsPlainly th sts (outside k) = Unit {0}
-StandsPlainly th sts (within k scope scoped last) = MatchOption (slice_get sts k) ⊥ (λ st. IsPlainProof th st scope scoped last)
-
 -- so many of the statement's first names stand in an input, and the next one does not
 pub record CountsInputs (st : Theorem) (n : ℕ) : Type 0 where
   pub in_range : n ≤ length st.scope.metas

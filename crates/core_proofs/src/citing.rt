@@ -10,7 +10,8 @@ ghost use Rattle.core_proofs.specs.Provable.{IsRightByRule};
 use crate::form::is_form;
 use crate::rule_step::is_rule_instance;
 use crate::step::StepId;
-use binding_terms::NoMemory;
+use binding_terms::{NoMemory, Text};
+use itoa::Buffer;
 use rule_schemes::{JScheme, RuleId, System};
 use scheme_terms::Scope;
 use sqlite_items::at;
@@ -61,6 +62,9 @@ pub(crate) fn rule_fault(
     let rules = system.rules();
     match at(rules.as_slice(), rule.0 as usize) {
         Some(rule) => {
+            if rule.premises.len() != on.len() {
+                return Ok(Some(Code::WrongCount));
+            }
             if is_rule_instance(alloc, system, scope, form, cited.as_slice(), rule)? {
                 Ok(None)
             } else {
@@ -69,4 +73,26 @@ pub(crate) fn rule_fault(
         }
         None => Ok(Some(Code::BadStep)),
     }
+}
+
+/// What is told beside the code of such a fault: how many premises the rule has, or its name.
+pub(crate) fn rule_detail(
+    alloc: Global,
+    system: &System,
+    rule: RuleId,
+    code: Code,
+) -> Result<Text, NoMemory> {
+    let mut detail = Text::new(alloc);
+    let rules = system.rules();
+    if let Some(rule) = at(rules.as_slice(), rule.0 as usize) {
+        match code {
+            Code::WrongCount => {
+                let mut digits = Buffer::new();
+                detail.push(digits.format(rule.premises.len()).as_bytes())?;
+            }
+            Code::NotInstance => detail.push(rule.name.bytes())?,
+            _ => {}
+        }
+    }
+    Ok(detail)
 }

@@ -11,7 +11,7 @@ ghost use Rattle.sy_base.specs.declared.fault.Fault.{Fault};
 ghost use Rattle.sy_base.specs.declared.fault.Refusal.TheVariants.{Refused};
 
 use crate::accepted::Accepted;
-use crate::citing::rule_fault;
+use crate::citing::{rule_detail, rule_fault};
 use crate::form::copy_form;
 use crate::goal::has_goal;
 use crate::scoping::{given_forms, proof_scope};
@@ -62,7 +62,7 @@ impl Model for Proving {
         (standing p.inside p.ended (names p.scope) (map judgment_scheme p.forms.items) p.last) };
 }
 
-/// A refusal at a line with a code.
+/// A refusal at a line with a code, and no more to tell.
 fn refusal(alloc: Global, line: u32, code: Code) -> Refusal {
     Refusal::Refused(Fault {
         line,
@@ -186,7 +186,8 @@ impl Proving {
         };
         let ended = match at(self.statements.as_slice(), self.ended) {
             Some(ended) => ended,
-            None => return Err(refusal(self.alloc, line, Code::BadStep)),
+            // Within a proof there is its theorem.
+            None => unreachable!(),
         };
         if !has_goal(self.alloc, &self.system, ended, &self.scope, form)? {
             return Err(refusal(self.alloc, line, Code::NotTheGoal));
@@ -226,7 +227,8 @@ impl Proving {
             on.as_slice(),
         )?;
         if let Some(code) = fault {
-            return Err(refusal(self.alloc, line, code));
+            let detail = rule_detail(self.alloc, &self.system, rule, code)?;
+            return Err(Refusal::Refused(Fault { line, code, detail }));
         }
         let again = copy_form(self.alloc, &form)?;
         let number = self.forms.len();

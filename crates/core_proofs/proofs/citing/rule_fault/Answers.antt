@@ -1,11 +1,12 @@
-use Rattle.std.proofs.Common.{◌≡◌, map, None, Some, slice_get, refl, ap, sym, ◌∙◌, true≢false}
+use Rattle.std.proofs.Common.{◌≡◌, length, map, None, Some, slice_get, refl, ap, sym, ◌∙◌, true≢false}
 use Rattle.std.specs.Prelude.{option_map}
 use Rattle.std.specs.Option.{option_copied}
+use Rattle.std.proofs.lemmas.List.{length-map}
 use Rattle.std.proofs.lemmas.Option.{slice_get-map}
 use Rattle.scheme_terms.specs.View.{names}
 use Rattle.rule_schemes.specs.View.{theory, judgment_scheme, rule}
 use Rattle.core_proofs.specs.Plain.{IsPlainForm}
-use Rattle.core_proofs.proofs.CitedForms.{uncited, no_rule, is_right, is_instance, cited_all, cited_are}
+use Rattle.core_proofs.proofs.CitedForms.{uncited, no_rule, is_right, is_instance, cited_all, cited_are, cited_count}
 use Rattle.core_proofs.proofs.PlainForms.{plain_form, plain_rule_at, step_form}
 use Rattle.core_proofs.proofs.citing.rule_fault.Goals as goal
 
@@ -56,3 +57,14 @@ returns c =
     slice_get-map rule c.args.system.now.rules c.args.rule.0
     ∙ ap (option_map rule) (ap (λ rs. slice_get rs c.args.rule.0) (sym (c.as_slice.ensures.value ∙ c.rules-rules.ensures)) ∙ sym c.at.ensures ∙ ap option_copied c.in-None.is) in
     (λ e. let no : ⊥ = cc in absurd no, λ right. absurd (no_rule _ _ _ _ _ _ none right))
+
+pub returns-then-len-on : goal.returns-then-len-on
+returns-then-len-on c =
+    let here : slice_get (theory c.args.system.now).rules c.args.rule.0 ≡ Some (rule c.in-Some-at.rule.now) =
+    slice_get-map rule c.args.system.now.rules c.args.rule.0
+    ∙ ap (option_map rule) (ap (λ rs. slice_get rs c.args.rule.0) (sym (c.as_slice.ensures.value ∙ c.rules-rules.ensures)) ∙ sym c.at.ensures ∙ ap option_copied c.in-Some-at.is) in
+    let plain = plain_rule_at _ c.always_system.ensures.plain _ _ here in
+    let premises : c.len.result ≡ length (map judgment_scheme c.in-Some-at.rule.now.premises) = c.len.ensures ∙ sym (length-map c.in-Some-at.rule.now.premises judgment_scheme) in (
+      λ e. let no : ⊥ = cc in absurd no,
+      λ right. absurd (c.if-len-on.true (premises ∙ cited_count _ _ _ _ _ _ (rule c.in-Some-at.rule.now) here plain right ∙ length-map c.args.on.now (λ id. id.0))),
+    )

@@ -7,7 +7,7 @@ use Rattle.core_proofs.specs.Kept.{Kept, form_at}
 use Rattle.core_proofs.specs.Proof.{outside}
 use Rattle.core_proofs.specs.Step.{end_theorem}
 use Rattle.core_proofs.specs.declared.step.CoreStep.TheVariants.{End}
-use Rattle.core_proofs.proofs.Refusing.{IsRefused, kept_of, refuse_end_outside, refuse_end_silent, refuse_end_past, refuse_end_goal, ends_at, proceeds, provable_at, plain_at, plain_last}
+use Rattle.core_proofs.proofs.Refusing.{IsRefused, kept_of, refuse_end_outside, refuse_end_silent, stated_within, refuse_end_goal, ends_at, proceeds, provable_at, plain_at, plain_last}
 use Rattle.core_proofs.proofs.proving.Proving.end.Goals as goal
 
 pub returns-then-not-self-clause-refused : goal.returns-then-not-self-clause-refused
@@ -22,12 +22,11 @@ returns-in-None-clause-refused c =
     λ fault is. subst (λ (k : Kept). IsRefused k (end_theorem c.args.line)) c.self.view_is
     (refuse_end_silent c.self.inside c.self.invariant c.args.line c.if-not-self.false silent)
 
-pub returns-in-None-at-clause-refused : goal.returns-in-None-at-clause-refused
-returns-in-None-at-clause-refused c =
+pub unreachable-requires : goal.unreachable-requires
+unreachable-requires c =
     let past : slice_get c.self.inside.statements.items c.self.inside.ended ≡ None =
     ap (λ xs. slice_get xs c.self.inside.ended) (sym c.as_slice-2.ensures.value) ∙ sym c.at.ensures ∙ ap option_copied c.in-None-at.is in
-    λ fault is. subst (λ (k : Kept). IsRefused k (end_theorem c.args.line)) c.self.view_is
-    (refuse_end_past c.self.inside c.self.invariant c.args.line c.if-not-self.false past)
+    stated_within c.self.inside c.self.invariant c.always_system.ensures.plain c.if-not-self.false past
 
 pub has_goal-requires-clause-provable : goal.has_goal-requires-clause-provable
 has_goal-requires-clause-provable c =

@@ -1,0 +1,10 @@
+pub mod Bodies
+pub mod Concluding
+pub mod Going
+pub mod OneInstance
+pub mod Pairing
+pub mod Pairs
+pub mod PlainInstances
+pub mod Restricting
+pub mod ValueLaws
+pub mod Values
