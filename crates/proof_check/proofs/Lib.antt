@@ -6,3 +6,7 @@ mod SpellingLemmas
 mod StepLemmas
 mod ProofLemmas
 mod FileLemmas
+mod ProvableLemmas
+mod BareLemmas
+mod RightFiles
+mod LeadsLemmas

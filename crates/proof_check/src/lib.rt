@@ -1,7 +1,8 @@
-//! Written proofs as core steps.
+//! Whole files: the core steps of written proofs, and right files.
 #![tactic(auto)]
 
 mod cited;
+mod file;
 mod forms;
 mod names;
 mod occurrences;
@@ -10,4 +11,5 @@ mod scope;
 mod spelling;
 mod step;
 
+pub use file::accept_file;
 pub use proofs::steps_of;

@@ -1,0 +1,186 @@
+// Whether a file is right.
+ghost use Rattle.std.specs.Prelude.{◌≡◌, ◌↔◌, ◌<◌, ◌-◌, ◌^◌, IsTrue, IfOk, MatchOption, List, map, length, vec_len};
+ghost use Rattle.std.specs.List.{AllByRecursion};
+ghost use Rattle.sy_base.specs.Tokens.{AreTokens};
+ghost use Rattle.proof_lexer.specs.View.{token_view};
+ghost use Rattle.outline_reader.specs.Plain.{outlined, HasPortions};
+ghost use Rattle.user_grammar.specs.Grammar.{IsSignatureOf};
+ghost use Rattle.user_grammar.specs.Bare.{IsBareSignature};
+ghost use Rattle.judgments.specs.Theory.{IsTheoryOf};
+ghost use Rattle.judgments.specs.Statements.{AreStatementsOf};
+ghost use Rattle.judgments.specs.Bare.{IsBareTheory, IsBareStatement};
+ghost use Rattle.rule_schemes.specs.Rules.{Theory};
+ghost use Rattle.rule_schemes.specs.Statement.{Theorem};
+ghost use Rattle.rule_schemes.specs.View.{theory, statement as plain_statement};
+ghost use Rattle.core_proofs.specs.Step.{Step};
+ghost use Rattle.core_proofs.specs.View.{step as plain_step};
+ghost use Rattle.core_proofs.specs.Kept.{kept_theory, kept_statements, kept_steps};
+ghost use Rattle.core_proofs.specs.Proof.{Proves};
+ghost use Rattle.core_proofs.specs.Provable.{IsProvable};
+ghost use Rattle.proof_check.specs.File.{IsFileOf, IsBuiltFileOf, IsRightSoFar, IsOnlyFile};
+ghost use Rattle.proof_check.specs.Steps.{AreStepsOf};
+
+use crate::proofs::steps_of;
+use binding_terms::{NoMemory, Sig};
+use core_proofs::{Accepted, CoreStep, Proving};
+use judgments::{statements_of, system_of};
+use outline_reader::{Outline, OutlineFault, outline, portions_are_unique, tokens_are_outlined};
+use proof_lexer::{LexFault, Token, lex, tokens_are_unique};
+use rule_schemes::{Statement, System};
+use std::alloc::Global;
+use sy_base::Refusal;
+use user_grammar::{signature, signatures_are_unique};
+
+/// Proofs of the statements by the steps, or none where a step is not right or a theorem has no proof.
+fn prove(
+    alloc: Global,
+    system: System,
+    statements: Vec<Statement>,
+    steps: Vec<CoreStep>,
+) -> Result<Option<Accepted>, NoMemory>
+    requires provable { AllByRecursion (IsProvable (theory system)) (map plain_statement statements.items) }
+    requires count { vec_len statements < 2 ^ 32 }
+    ensures { IfOk result (λ found. MatchOption found
+        (Proves (theory system) (map plain_statement statements.items) (map plain_step steps.items) → ⊥)
+        (λ accepted. (accepted ≡ record { system = system; statements = statements.items; steps = steps.items })
+            × Proves (theory system) (map plain_statement statements.items) (map plain_step steps.items))) }
+{
+    let mut proving = Proving::open(alloc, system, statements)?;
+    for step in steps {
+        match proving.accept_step(step) {
+            Ok(()) => {}
+            Err(Refusal::NoMemory) => return Err(NoMemory),
+            Err(Refusal::Refused(_)) => return Ok(None),
+        }
+    }
+    match proving.finish() {
+        Ok(accepted) => Ok(Some(accepted)),
+        Err(_) => Ok(None),
+    }
+}
+
+/// The proofs of a file whose statements are told.
+fn proofs_of(
+    alloc: Global,
+    outline: &Outline<'_>,
+    system: System,
+    statements: Vec<Statement>,
+) -> Result<Option<Accepted>, NoMemory>
+    requires signature { IsSignatureOf (outlined outline.now) (theory system).sig }
+    requires theory { IsTheoryOf (outlined outline.now) (theory system) }
+    requires bare { IsBareTheory (theory system) }
+    requires statements { AreStatementsOf (outlined outline.now) (theory system) (map plain_statement statements.items) }
+    requires bare_statements { AllByRecursion IsBareStatement (map plain_statement statements.items) }
+    requires count { vec_len statements < 2 ^ 32 }
+    ensures { IfOk result (IsOnlyFile (λ th sts steps. (th ≡ theory system) × (sts ≡ map plain_statement statements.items)
+        × IsFileOf (outlined outline.now) th sts steps)) }
+{
+    match steps_of(alloc, outline, &system, &statements)? {
+        Some(steps) => prove(alloc, system, statements, steps),
+        None => Ok(None),
+    }
+}
+
+/// The statements and proofs of a file whose theory is told.
+fn theorems_of(
+    alloc: Global,
+    outline: &Outline<'_>,
+    system: System,
+) -> Result<Option<Accepted>, NoMemory>
+    requires signature { IsSignatureOf (outlined outline.now) (theory system).sig }
+    requires theory { IsTheoryOf (outlined outline.now) (theory system) }
+    requires bare { IsBareTheory (theory system) }
+    ensures { IfOk result (IsOnlyFile (λ th sts steps. (th ≡ theory system) × IsBuiltFileOf (outlined outline.now) th sts steps)) }
+{
+    match statements_of(alloc, outline, &system)? {
+        Some(statements) => {
+            if statements.len() >= 1 << 32 {
+                return Err(NoMemory);
+            }
+            proofs_of(alloc, outline, system, statements)
+        }
+        None => Ok(None),
+    }
+}
+
+/// The theory, statements and proofs of a file whose signature is told.
+fn theory_of(
+    alloc: Global,
+    outline: &Outline<'_>,
+    sig: Sig,
+) -> Result<Option<Accepted>, NoMemory>
+    requires signature { IsSignatureOf (outlined outline.now) sig }
+    requires bare { IsBareSignature sig }
+    ensures { IfOk result (IsOnlyFile (λ th sts steps. (th.sig ≡ sig) × IsBuiltFileOf (outlined outline.now) th sts steps)) }
+{
+    match system_of(alloc, outline, sig)? {
+        Some(system) => theorems_of(alloc, outline, system),
+        None => Ok(None),
+    }
+}
+
+/// What the portions of a file stand for, or none where they are no right file.
+fn parts_of(alloc: Global, outline: &Outline<'_>) -> Result<Option<Accepted>, NoMemory>
+    ensures { IfOk result (IsOnlyFile (IsBuiltFileOf (outlined outline.now))) }
+{
+    signatures_are_unique();
+    match signature(alloc, outline)? {
+        Some(sig) => theory_of(alloc, outline, sig),
+        None => Ok(None),
+    }
+}
+
+/// Whether there was no memory for the outline.
+fn is_want_of_outline(fault: &OutlineFault) -> bool
+    ensures { IsTrue result ↔ (fault.now ≡ OutlineFault.NoMemory) }
+{
+    matches!(fault, OutlineFault::NoMemory)
+}
+
+/// Whether there was no memory for the tokens.
+fn is_want_of_tokens(fault: &LexFault) -> bool
+    ensures { IsTrue result ↔ (fault.now ≡ LexFault.NoMemory) }
+{
+    matches!(fault, LexFault::NoMemory)
+}
+
+/// What a file of these tokens stands for, or none where it is not right.
+fn tokens_of(
+    alloc: Global,
+    source: &[u8],
+    tokens: &Vec<Token<'_>>,
+) -> Result<Option<Accepted>, NoMemory>
+    requires { AreTokens source.now (map token_view tokens.now.items) }
+    ensures { IfOk result (IsOnlyFile (IsRightSoFar source.now)) }
+{
+    let _ = source;
+    portions_are_unique();
+    tokens_are_outlined();
+    match outline(alloc, tokens) {
+        Ok(outline) => parts_of(alloc, &outline),
+        Err(fault) => {
+            if is_want_of_outline(&fault) {
+                return Err(NoMemory);
+            }
+            Ok(None)
+        }
+    }
+}
+
+/// The theory, the statements and the proofs for which a file stands, or none where the file is not right or has a form that is not built
+/// yet.
+pub fn accept_file(alloc: Global, source: &[u8]) -> Result<Option<Accepted>, NoMemory>
+    requires size { length source.now < 2 ^ 32 - 1 }
+    ensures { IfOk result (IsOnlyFile (IsRightSoFar source.now)) }
+{
+    tokens_are_unique();
+    match lex(alloc, source) {
+        Ok(tokens) => tokens_of(alloc, source, &tokens),
+        Err(fault) => {
+            if is_want_of_tokens(&fault) {
+                return Err(NoMemory);
+            }
+            Ok(None)
+        }
+    }
+}
