@@ -1,2 +1,7 @@
+pub mod Bare
 pub mod Named
+pub mod Spellings
+pub mod Statements
+pub mod Texts
+pub mod Theory
 pub mod Written

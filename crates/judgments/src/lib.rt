@@ -1,2 +1,4 @@
 //! The rules and statements of a file.
 #![tactic(auto)]
+
+mod words;
