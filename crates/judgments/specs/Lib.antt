@@ -1,4 +1,5 @@
 pub mod Bare
+pub mod Built
 pub mod Named
 pub mod Spellings
 pub mod Statements

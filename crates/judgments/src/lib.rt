@@ -1,4 +1,6 @@
 //! The rules and statements of a file.
 #![tactic(auto)]
 
+mod items;
+mod judgment;
 mod words;

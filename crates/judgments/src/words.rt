@@ -43,6 +43,12 @@ fn are_endings(bytes: &[u8]) -> bool
     true
 }
 
+pub fn same_bytes(one: &[u8], other: &[u8]) -> bool
+    ensures { IsTrue result ↔ (one.now ≡ other.now) }
+{
+    one == other
+}
+
 /// Whether the word is the name followed by digits and primes.
 pub fn is_spelling(name: &[u8], word: &[u8]) -> bool
     ensures { IsTrue result ↔ IsSpelling name.now word.now }
@@ -51,7 +57,7 @@ pub fn is_spelling(name: &[u8], word: &[u8]) -> bool
     if word.len() < count {
         return false;
     }
-    if &word[..count] != name {
+    if !same_bytes(&word[..count], name) {
         return false;
     }
     are_endings(&word[count..])
