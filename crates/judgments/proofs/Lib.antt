@@ -1,3 +1,6 @@
+pub mod Collecting
 pub mod ItemLemmas
+pub mod NamedApart
+pub mod ReadingLemmas
 pub mod Spelling
 pub mod Zips

@@ -79,7 +79,7 @@ fn is_terminal(sig: &Sig, outline: &Outline<'_>, token: &Token<'_>) -> bool
     }
 }
 
-fn is_word(kind: Kind) -> bool
+pub fn is_word(kind: Kind) -> bool
     ensures { IsTrue result ↔ (kind_number kind ≡ 0) }
 {
     match kind {

@@ -3,4 +3,6 @@
 
 mod items;
 mod judgment;
+mod names;
+mod naming;
 mod words;
