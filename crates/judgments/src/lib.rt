@@ -5,4 +5,5 @@ mod items;
 mod judgment;
 mod names;
 mod naming;
+mod readings;
 mod words;
