@@ -1,7 +1,9 @@
 pub mod Collecting
 pub mod ItemLemmas
 pub mod NamedApart
+pub mod OneOrder
 pub mod OneReading
 pub mod ReadingLemmas
 pub mod Spelling
+pub mod WordsOfForms
 pub mod Zips
