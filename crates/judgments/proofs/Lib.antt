@@ -1,3 +1,4 @@
+pub mod BareForms
 pub mod Collecting
 pub mod ItemLemmas
 pub mod NamedApart

@@ -1,6 +1,7 @@
 pub mod Bare
 pub mod Built
 pub mod Collected
+pub mod Laws
 pub mod Named
 pub mod Spellings
 pub mod Statements

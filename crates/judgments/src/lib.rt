@@ -3,7 +3,10 @@
 
 mod items;
 mod judgment;
+mod laws;
 mod names;
 mod naming;
 mod readings;
 mod words;
+
+pub use laws::{readings_are_in_scope, spellings_are_names};
