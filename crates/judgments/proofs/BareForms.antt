@@ -91,7 +91,7 @@ module _ (sig : Signature) (js : List Judgment) (bare : IsBareSignature sig) (cl
       (let never : None ≡ Some id = sym (all_at (IsBareJudgment sig.cats) js k j closed g).no_context ∙ c in cc)
 
   -- the judgment that a form reads as
-  reads_as : (names : Names) (form : List Token) (j : JudgmentScheme) → ReadsOnlyAs sig js names form j → ReadsJudgment sig js (settled names) names.metas form j []
+  pub reads_as : (names : Names) (form : List Token) (j : JudgmentScheme) → ReadsOnlyAs sig js names form j → ReadsJudgment sig js (settled names) names.metas form j []
   reads_as names form j h =
       let read = h.reading.reads in
       subst (λ (ms : List MetaDecl). ReadsJudgment sig js (settled names) ms form j []) (append-nil names.metas)

@@ -5,6 +5,7 @@ pub mod NamedApart
 pub mod OneOrder
 pub mod OneReading
 pub mod ReadingLemmas
+pub mod RuleLemmas
 pub mod Spelling
 pub mod WordsOfForms
 pub mod Zips

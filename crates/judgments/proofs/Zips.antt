@@ -64,3 +64,18 @@ zip_right R P f [] [] h = tt
 zip_right R P f [] (b ∷ bs) h = absurd h
 zip_right R P f (a ∷ js) [] h = absurd h
 zip_right R P f (a ∷ js) (b ∷ bs) h = (f a b h.0, zip_right R P f js bs h.1)
+
+nothing_left : {A B : Type 0} (R : A → B → Type 0) (ys : List B) (y : B) → AllZip R [] (ys ++ y ∷ []) → ⊥
+nothing_left R [] y h = h
+nothing_left R (z ∷ ys) y h = h
+
+nothing_right : {A B : Type 0} (R : A → B → Type 0) (xs : List A) (x : A) → AllZip R (xs ++ x ∷ []) [] → ⊥
+nothing_right R [] x h = h
+nothing_right R (z ∷ xs) x h = h
+
+-- the last elements belong together, and what stands before them
+pub zip_last : {A B : Type 0} (R : A → B → Type 0) (xs : List A) (x : A) (ys : List B) (y : B) → AllZip R (xs ++ x ∷ []) (ys ++ y ∷ []) → AllZip R xs ys × R x y
+zip_last R [] x [] y h = (tt, h.0)
+zip_last R [] x (z ∷ ys) y h = absurd (nothing_left R ys y h.1)
+zip_last R (z ∷ xs) x [] y h = absurd (nothing_right R xs x h.1)
+zip_last R (u ∷ xs) x (v ∷ ys) y h = let k = zip_last R xs x ys y h.1 in ((h.0, k.0), k.1)
