@@ -95,7 +95,7 @@ module _ (sig : Signature) (js : List Judgment) (bare : IsBareSignature sig) (ap
       let same : n.0 ≡ length used = one_place (used ++ u ∷ unread) n.0 (length used) n.1 u names.differ n.2 place n.3 in
       absurd (unused.0 (f (length used) (subst (λ k. AnyByRecursion (OccursInJudgment k) zs) same n.4)))
 
-  over_closed : (k : ℕ) → rule_root (record { sig = sig; judgments = js; rules = [] }) k ≡ Closed
+  pub over_closed : (k : ℕ) → rule_root (record { sig = sig; judgments = js; rules = [] }) k ≡ Closed
   over_closed k = root_closed sig.cats js k closed
 
   -- the rule with the metavariables that were collected and the judgments that were read
