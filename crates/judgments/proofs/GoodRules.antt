@@ -25,7 +25,7 @@ use Rattle.rule_schemes.specs.declared.fault.RuleFault.{RuleFault}
 use Rattle.rule_schemes.specs.declared.fault.RuleFault.TheVariants as faults
 use Rattle.rule_schemes.specs.declared.rule.Judgment.{Judgment}
 use Rattle.judgments.specs.Bare.{IsBareSignature, IsBareJudgment, IsBareTheory}
-use Rattle.judgments.specs.Built.{IsBuiltJudgment}
+use Rattle.judgments.specs.Built.{IsBuiltJudgment, IsGoodRule}
 use Rattle.judgments.specs.Collected.{IsCollected, AreCollected}
 use Rattle.judgments.specs.Laws.{AreBareNames}
 use Rattle.judgments.specs.Spellings.{IsSpellingOf, AreSpelledApart}
@@ -105,14 +105,6 @@ any_map : {A : Type 0} (P Q : A → Type 0) (xs : List A) → AllByRecursion (λ
 any_map P Q [] h a = a
 any_map P Q (x ∷ xs) h (inl a) = inl (h.0 a)
 any_map P Q (x ∷ xs) h (inr a) = inr (any_map P Q xs h.1 a)
-
--- what is asked of a rule before it is added, and what speaks for it
-pub record IsGoodRule (th : Theory) (r : Rule) : Type 0 where
-  pub forms : HasForms th r
-  pub plain : HasPlainNames r
-  pub closed : r.conclusion.context.root ≡ Closed
-  pub bare : HasGoodConclusion r
-  pub strict : AllStrict r
 
 module _ (th : Theory) (bare : IsBareTheory th) (text : RuleText) (r : Rule) (h : IsBlockRule th.sig th.judgments text r) where
   says : AreCollected th.sig.cats (joined (rule_forms text)) r.metas × AllZip (ReadsOnlyAs th.sig th.judgments (closed_names r.metas)) text.premises r.premises
@@ -195,3 +187,11 @@ never_refused th r (faults.NotStrict m) h f = first_unstrict r 0 m.0 r.metas h.s
 never_refused th r (faults.NeedsContext j) h f = none_misplaced (with_rule th r) r r.premises j.0 h.closed f.first
 never_refused th r (faults.TwoAssumptions q) h f = (let k = found_some (λ (s : Rule). AssumeAlike s r) th.rules q.0 f.alike in none_alike r k.0 h.closed k.1)
 never_refused th r faults.NoMemory h f = f
+
+-- where it is not added, there was no memory
+pub want_of_memory : (th : Theory) (r : Rule) (fault : RuleFault) → IsGoodRule th r → ((fault ≡ faults.NoMemory → ⊥) → Refuses th r fault) → fault ≡ faults.NoMemory
+want_of_memory th r faults.BadConclusion h f = absurd (never_refused th r faults.BadConclusion h (f (λ e. cc)))
+want_of_memory th r (faults.NotStrict m) h f = absurd (never_refused th r (faults.NotStrict m) h (f (λ e. cc)))
+want_of_memory th r (faults.NeedsContext j) h f = absurd (never_refused th r (faults.NeedsContext j) h (f (λ e. cc)))
+want_of_memory th r (faults.TwoAssumptions q) h f = absurd (never_refused th r (faults.TwoAssumptions q) h (f (λ e. cc)))
+want_of_memory th r faults.NoMemory h f = refl

@@ -6,6 +6,7 @@ pub mod NamedApart
 pub mod OneOrder
 pub mod OneReading
 pub mod ReadingLemmas
+pub mod RuleAnswers
 pub mod RuleLemmas
 pub mod Spelling
 pub mod WordsOfForms

@@ -7,6 +7,8 @@ mod laws;
 mod names;
 mod naming;
 mod readings;
+mod rules;
+mod system;
 mod words;
 
 pub use laws::{readings_are_in_scope, spellings_are_names};

@@ -1,0 +1,9 @@
+use Rattle.std.proofs.Common.{◌≡◌, [], sym, subst}
+use Rattle.scheme_terms.specs.declared.scheme.MetaDecl.{MetaDecl}
+use Rattle.judgments.specs.Collected.{AreCollected}
+use Rattle.judgments.proofs.Collecting.{no_tokens}
+use Rattle.judgments.proofs.rules.names_of.Goals as goal
+
+pub returns : goal.returns
+returns c =
+    c.in_ok-take_names.ensures _ (c.in_ok-take_all_names.ensures [] (rw c.new-metas.ensures (no_tokens c.args.sig.now.cats)))
