@@ -9,5 +9,6 @@ pub mod ReadingLemmas
 pub mod RuleAnswers
 pub mod RuleLemmas
 pub mod Spelling
+pub mod SystemLemmas
 pub mod WordsOfForms
 pub mod Zips
