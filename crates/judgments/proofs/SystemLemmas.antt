@@ -1,5 +1,5 @@
 -- The system of a file, portion by portion.
-use Rattle.std.proofs.Common.{◌≡◌, ◌≢◌, ◌⊎◌, ◌+◌, ◌<◌, ℕ, zero, suc, Bool, false, List, [], ◌∷◌, ◌++◌, length, map, take, drop, get_or, refl, ap, ◌∙◌, sym, subst, arith, Option, Some, None, slice_get, MatchOption, append-nil, append_assoc}
+use Rattle.std.proofs.Common.{◌≡◌, ◌≢◌, ◌⊎◌, ◌+◌, ◌<◌, ℕ, zero, suc, Bool, false, List, [], ◌∷◌, ◌++◌, length, map, take, drop, get_or, refl, ap, ◌∙◌, sym, subst, arith, Option, Some, None, slice_get, MatchOption, IfOk, Result, Ok, Err, append-nil, append_assoc}
 use Rattle.std.specs.List.{AllByRecursion, AllZip}
 use Rattle.std.proofs.lemmas.List.{take_more, drop_more, take-append-drop}
 use Rattle.binding_terms.specs.Signature.{Signature, Place, slots, binders, IsPlain, IsContext}
@@ -19,10 +19,10 @@ use Rattle.judgments.specs.Bare.{IsBareSignature, IsBareJudgment, IsBareTheory}
 use Rattle.judgments.specs.Built.{IsBuiltJudgment, HasRulesOf}
 use Rattle.judgments.specs.Spellings.{IsSpellingOf, AreSpelledApart}
 use Rattle.judgments.specs.Texts.{JudgmentText, RuleText, as_read, judgments_in, rule_in, rules_in, block_after}
-use Rattle.judgments.specs.Theory.{IsItemOf, IsJudgmentOf, IsBlockRule, IsTheoryOf}
+use Rattle.judgments.specs.Theory.{IsItemOf, IsJudgmentOf, IsBlockRule, IsTheoryOf, AreNamedApart, a_judgment, a_rule}
 use Rattle.judgments.proofs.RuleLemmas.{one_rule}
 use Rattle.judgments.proofs.Spelling.{none_spelled}
-use Rattle.judgments.proofs.Zips.{zip_append, zip_split, zip_unique, zip_right, zip_both, map_append}
+use Rattle.judgments.proofs.Zips.{zip_append, zip_split, zip_unique, zip_right, zip_both, zip_map, map_append}
 
 -- forms are read as their tokens are lent
 pub form_read : (ts : List of_token.Token) → map taken (map token_view ts) ≡ map kind_and_text ts
@@ -215,3 +215,52 @@ module _ (portions : List PlainPortion) where
       (subst (λ (s : Signature). AllZip (IsBlockRule s other.judgments) (rules_in 0 portions) th.rules) e
       (subst (λ js. AllZip (IsBlockRule th.sig js) (rules_in 0 portions) th.rules) judgments h.rules)) k.rules in
       λ i. record { sig = e i; judgments = judgments i; rules = rules i }
+
+-- a result that is Ok
+pub if_ok_map : {A E : Type 0} (P Q : A → Type 0) → ((a : A) → P a → Q a) → (r : Result A E) → IfOk r P → IfOk r Q
+if_ok_map P Q f (Ok a) h = f a h
+if_ok_map P Q f (Err e) h = tt
+
+-- the theory of these judgments without rules, and what becomes of it
+module _ (sig : Signature) (portions : List PlainPortion) (bare : IsBareSignature sig) (apart : AreSpelledApart sig) (js : List Judgment)
+    (built : AllZip (IsBuiltJudgment sig portions) (judgments_in portions) js) where
+  abbrev pub start : Theory
+  start = record { sig = sig; judgments = js; rules = [] }
+
+  pub start_bare : IsBareTheory start
+  start_bare = record {
+    sig = bare;
+    apart = apart;
+    judgments = zip_right (IsBuiltJudgment sig portions) (IsBareJudgment sig.cats) (λ t j b. b.1) (judgments_in portions) js built;
+  }
+
+  pub all_fit : AllByRecursion (JudgmentFits sig) js
+  all_fit = zip_right (IsBuiltJudgment sig portions) (JudgmentFits sig) (judgment_fits sig bare portions) (judgments_in portions) js built
+
+  pub start_found : (th more : Theory) → th ≡ start → HasRulesOf th (rules_in 0 portions) more → IsSystem more → AreNamedApart a_judgment portions → AreNamedApart a_rule portions
+      → (more.sig ≡ sig) × IsTheoryOf portions more × IsBareTheory more × ((other : Theory) → other.sig ≡ sig → IsTheoryOf portions other → IsBareTheory other → other ≡ more)
+  start_found th more is h system judgment_names rule_names =
+      let k : HasRulesOf start (rules_in 0 portions) more = subst (λ (t : Theory). HasRulesOf t (rules_in 0 portions) more) is h in
+      let more_bare : IsBareTheory more = bare_more start more (rules_in 0 portions) start_bare k in
+      let judgments : AllZip (IsJudgmentOf more.sig portions) (judgments_in portions) more.judgments =
+      subst (λ (s : Signature). AllZip (IsJudgmentOf s portions) (judgments_in portions) more.judgments) (sym k.sig)
+      (subst (AllZip (IsJudgmentOf sig portions) (judgments_in portions)) (sym k.judgments) (zip_map (IsBuiltJudgment sig portions) (IsJudgmentOf sig portions) (λ t j b. b.0) (judgments_in portions) js built)) in
+      let rules : AllZip (IsBlockRule more.sig more.judgments) (rules_in 0 portions) more.rules =
+      subst (λ (s : Signature). AllZip (IsBlockRule s more.judgments) (rules_in 0 portions) more.rules) (sym k.sig)
+      (subst (λ l. AllZip (IsBlockRule sig l) (rules_in 0 portions) more.rules) (sym k.judgments) (subst (AllZip (IsBlockRule sig js) (rules_in 0 portions)) (sym k.rules) k.written)) in
+      let whole : IsTheoryOf portions more = record { judgments = judgments; rules = rules; judgment_names = judgment_names; rule_names = rule_names; system = system } in
+      (k.sig, whole, more_bare, λ other e o b. same_theories portions other more (e ∙ sym k.sig) o b whole more_bare)
+
+  pub start_none : (th : Theory) → th ≡ start → ((rs : List Rule) → AllZip (IsBlockRule th.sig th.judgments) (rules_in 0 portions) rs → ⊥)
+      → (other : Theory) → other.sig ≡ sig → IsTheoryOf portions other → IsBareTheory other → ⊥
+  start_none th is none other e o b =
+      let same : other.judgments ≡ js = same_judgments portions other start e o b start_bare built in
+      let never : (rs : List Rule) → AllZip (IsBlockRule sig js) (rules_in 0 portions) rs → ⊥ = subst (λ (t : Theory). (rs : List Rule) → AllZip (IsBlockRule t.sig t.judgments) (rules_in 0 portions) rs → ⊥) is none in
+      never other.rules
+      (subst (λ (s : Signature). AllZip (IsBlockRule s js) (rules_in 0 portions) other.rules) e (subst (λ l. AllZip (IsBlockRule other.sig l) (rules_in 0 portions) other.rules) same o.rules))
+
+-- where there are no such judgments there is no theory
+pub no_judgments_none : (sig : Signature) (portions : List PlainPortion) → ((js : List Judgment) → AllZip (IsBuiltJudgment sig portions) (judgments_in portions) js → ⊥)
+    → (th : Theory) → th.sig ≡ sig → IsTheoryOf portions th → IsBareTheory th → ⊥
+no_judgments_none sig portions none th e h b =
+    none th.judgments (subst (λ (s : Signature). AllZip (IsBuiltJudgment s portions) (judgments_in portions) th.judgments) e (built_judgments portions th h b))

@@ -1,5 +1,5 @@
 // The judgments that a file declares.
-ghost use Rattle.std.specs.Prelude.{◌≡◌, ◌↔◌, IsTrue, IfOk, MatchOption, List, None, [], ◌∷◌, map};
+ghost use Rattle.std.specs.Prelude.{◌≡◌, ◌↔◌, IsTrue, IfOk, OnOk, MatchOption, List, None, [], ◌∷◌, ◌++◌, map};
 ghost use Rattle.std.specs.List.{AllZip, AllByRecursion};
 ghost use Rattle.proof_lexer.specs.View.{token_view};
 ghost use Rattle.outline_reader.specs.Views.{portion_view};
@@ -14,7 +14,6 @@ use crate::words::text_of;
 use binding_terms::{NoMemory, Sig};
 use outline_reader::{Form, Name, Outline, Portion};
 use rule_schemes::Judgment;
-use sqlite_items::Items;
 use std::alloc::Global;
 
 /// The most tokens of a form.
@@ -47,10 +46,10 @@ fn judgment_of(
     }
 }
 
-fn alone(alloc: Global, j: Judgment) -> Result<Items<Judgment>, NoMemory>
-    ensures { IfOk result (λ all. all ≡ j ∷ []) }
+fn alone(alloc: Global, j: Judgment) -> Result<Vec<Judgment>, NoMemory>
+    ensures { IfOk result (λ all. all.items ≡ j ∷ []) }
 {
-    let mut all = Items::new(alloc);
+    let mut all = Vec::new(alloc);
     all.push(j)?;
     Ok(all)
 }
@@ -61,10 +60,10 @@ fn declared(
     sig: &Sig,
     outline: &Outline<'_>,
     portion: &Portion<'_>,
-) -> Result<Option<Items<Judgment>>, NoMemory>
+) -> Result<Option<Vec<Judgment>>, NoMemory>
     ensures { IfOk result (λ found. MatchOption found
         ((js : List Judgment) → AllZip (IsBuiltJudgment sig.now (outlined outline.now)) (judgment_in (plain_portion (portion_view portion.now))) js → ⊥)
-        (λ js. AllZip (IsBuiltJudgment sig.now (outlined outline.now)) (judgment_in (plain_portion (portion_view portion.now))) js)) }
+        (λ js. AllZip (IsBuiltJudgment sig.now (outlined outline.now)) (judgment_in (plain_portion (portion_view portion.now))) js.items)) }
 {
     match portion {
         Portion::Judgment {
@@ -81,8 +80,15 @@ fn declared(
                 None => Ok(None),
             }
         }
-        _ => Ok(Some(Items::new(alloc))),
+        _ => Ok(Some(Vec::new(alloc))),
     }
+}
+
+fn join(all: &mut Vec<Judgment>, mut more: Vec<Judgment>) -> Result<(), NoMemory>
+    ensures { OnOk result (all.new.items ≡ all.old.items ++ more.items) }
+{
+    all.append(&mut more)?;
+    Ok(())
 }
 
 /// The judgments that the outline declares.
@@ -90,15 +96,15 @@ pub fn judgments_of(
     alloc: Global,
     sig: &Sig,
     outline: &Outline<'_>,
-) -> Result<Option<Items<Judgment>>, NoMemory>
+) -> Result<Option<Vec<Judgment>>, NoMemory>
     ensures { IfOk result (λ found. MatchOption found
         ((js : List Judgment) → AllZip (IsBuiltJudgment sig.now (outlined outline.now)) (judgments_in (outlined outline.now)) js → ⊥)
-        (λ js. AllZip (IsBuiltJudgment sig.now (outlined outline.now)) (judgments_in (outlined outline.now)) js)) }
+        (λ js. AllZip (IsBuiltJudgment sig.now (outlined outline.now)) (judgments_in (outlined outline.now)) js.items)) }
 {
-    let mut all = Items::new(alloc);
+    let mut all = Vec::new(alloc);
     for portion in outline.parts.as_slice() {
         match declared(alloc, sig, outline, portion)? {
-            Some(more) => all.append(more)?,
+            Some(more) => join(&mut all, more)?,
             None => return Ok(None),
         }
     }

@@ -12,3 +12,4 @@ mod system;
 mod words;
 
 pub use laws::{readings_are_in_scope, spellings_are_names};
+pub use system::system_of;

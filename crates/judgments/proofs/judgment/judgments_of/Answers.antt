@@ -14,6 +14,6 @@ returns-in-None c =
 pub loop-portion-preserved : goal.loop-portion-preserved
 loop-portion-preserved c =
     let lt = rw c.as_slice-portion-items.ensures.value at c.loop-portion-test.true in
-    rw c.in_ok-append-in-Some.ensures
+    rw c.in_ok-join-in-Some.ensures
     (more_judgments (λ portion. plain_portion (portion_view portion)) (IsBuiltJudgment c.args.sig.now (outlined c.args.outline.now)) c.args.outline.now.parts.items c.loop-portion.portion-index
-    c.portion-item.result lt c.loop-portion.all c.in-Some.more c.loop-portion.invariant (rw (c.in-Some.is, c.portion-item.is, c.as_slice-portion-items.ensures.value) at c.in_ok-more.ensures))
+    c.portion-item.result lt c.loop-portion.all.items c.in-Some.more.items c.loop-portion.invariant (rw (c.in-Some.is, c.portion-item.is, c.as_slice-portion-items.ensures.value) at c.in_ok-more.ensures))

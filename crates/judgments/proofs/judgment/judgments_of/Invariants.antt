@@ -9,4 +9,4 @@ use Rattle.judgments.proofs.judgment.judgments_of.Given as goal
 abbrev pub invariant-loop-portion : goal.invariant-loop-portion
 invariant-loop-portion l =
     AllZip (IsBuiltJudgment l.sig (outlined l.outline))
-    (judgments_in (map (λ portion. plain_portion (portion_view portion)) (take l.portion-index l.outline.parts.items))) l.all
+    (judgments_in (map (λ portion. plain_portion (portion_view portion)) (take l.portion-index l.outline.parts.items))) l.all.items
