@@ -10,7 +10,7 @@ use Rattle.scheme_terms.specs.declared.scheme.MetaDecl.{MetaDecl}
 use Rattle.rule_schemes.specs.Reading.{Token, word}
 use Rattle.rule_schemes.specs.NewNames.{AreInOrder, StandsBefore}
 use Rattle.judgments.specs.Spellings.{IsSpellingOf, IsNoSpelling}
-use Rattle.judgments.specs.Collected.{IsAmong, StandsIn, IsCollected, AreCollected, IsKept, IsAdded, AreNext, AreCollectedFrom}
+use Rattle.judgments.specs.Collected.{IsAmong, StandsIn, IsCollected, AreCollected, IsKept, IsAdded, AreNext, AreCollectedFrom, IsLonger}
 use Rattle.judgments.proofs.Spelling.{none_spelled}
 use Rattle.judgments.proofs.Zips.{map_append}
 
@@ -145,3 +145,10 @@ module _ {X : Type 0} (f : X → List Token) (cats : List Cat) (first before aft
 -- no names of no tokens
 pub no_tokens : (cats : List Cat) → AreCollected cats [] []
 no_tokens cats = record { each = tt; all = λ w c s spelled. s; differ = tt; in_order = tt }
+
+pub longer_token : (cats : List Cat) (before after : List MetaDecl) (t : Token) → AreNext cats before t after → IsLonger before after
+longer_token cats before after t (inl k) = ([], k.same ∙ sym (append-nil before))
+longer_token cats before after t (inr k) = (k.decl ∷ [], k.at_end)
+
+pub longer_again : (a b d : List MetaDecl) → IsLonger a b → IsLonger b d → IsLonger a d
+longer_again a b d h k = (h.0 ++ k.0, k.1 ∙ ap (λ l. l ++ k.0) h.1 ∙ append_assoc a h.0 k.0)

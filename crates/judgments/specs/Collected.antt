@@ -50,3 +50,7 @@ AreNext cats before t after = IsKept cats before t after ⊎ IsAdded cats before
 abbrev pub AreCollectedFrom : List Cat → (before : List MetaDecl) → List Token → (after : List MetaDecl) → Type 0
 AreCollectedFrom cats before tokens after =
     (front : List Token) → AreCollected cats front before → AreCollected cats (front ++ tokens) after
+
+-- names at the end more
+abbrev pub IsLonger : (before after : List MetaDecl) → Type 0
+IsLonger before after = (more : List MetaDecl) × (after ≡ before ++ more)

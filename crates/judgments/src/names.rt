@@ -3,12 +3,12 @@ ghost use Rattle.std.specs.Prelude.{◌≡◌, ◌↔◌, ◌++◌, IsTrue, IfOk
 ghost use Rattle.proof_lexer.specs.View.{kind_and_text};
 ghost use Rattle.rule_schemes.specs.Reading.{Token, word};
 ghost use Rattle.judgments.specs.Spellings.{IsSpellingOf};
-ghost use Rattle.judgments.specs.Collected.{IsAmong, AreCollected, AreCollectedFrom, AreNext};
+ghost use Rattle.judgments.specs.Collected.{IsAmong, AreCollected, AreCollectedFrom, AreNext, IsLonger};
 
 use crate::items::is_word;
 use crate::words::{same_bytes, spelled, text_of};
 use binding_terms::{Cat, CatId, NoMemory, Sig};
-use outline_reader::Form;
+use outline_reader::{Form, NamedForm};
 use proof_lexer::Token;
 use scheme_terms::MetaDecl;
 use sqlite_items::Items;
@@ -75,7 +75,8 @@ pub fn take_names(
     metas: &mut Items<MetaDecl>,
     form: &[Token<'_>],
 ) -> Result<(), NoMemory>
-    ensures { OnOk result (AreCollectedFrom sig.now.cats metas.old (map kind_and_text form.now) metas.new) }
+    ensures collected { OnOk result (AreCollectedFrom sig.now.cats metas.old (map kind_and_text form.now) metas.new) }
+    ensures longer { OnOk result (IsLonger metas.old metas.new) }
 {
     for token in form {
         take_token(alloc, sig, metas, token)?;
@@ -90,11 +91,28 @@ pub fn take_all_names(
     metas: &mut Items<MetaDecl>,
     forms: &[Form<'_>],
 ) -> Result<(), NoMemory>
-    ensures { OnOk result
+    ensures collected { OnOk result
         (AreCollectedFrom sig.now.cats metas.old (flat_map (λ form. map kind_and_text form.now) forms.now) metas.new) }
+    ensures longer { OnOk result (IsLonger metas.old metas.new) }
 {
     for form in forms {
         take_names(alloc, sig, metas, form)?;
+    }
+    Ok(())
+}
+
+/// Adds the names of forms that have names themselves.
+pub fn take_given_names(
+    alloc: Global,
+    sig: &Sig,
+    metas: &mut Items<MetaDecl>,
+    forms: &[NamedForm<'_>],
+) -> Result<(), NoMemory>
+    ensures { OnOk result
+        (AreCollectedFrom sig.now.cats metas.old (flat_map (λ named. map kind_and_text named.form.now) forms.now) metas.new) }
+{
+    for named in forms {
+        take_names(alloc, sig, metas, named.form)?;
     }
     Ok(())
 }
