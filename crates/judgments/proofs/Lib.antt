@@ -3,12 +3,14 @@ pub mod Collecting
 pub mod GoodRules
 pub mod ItemLemmas
 pub mod NamedApart
+pub mod Occurring
 pub mod OneOrder
 pub mod OneReading
 pub mod ReadingLemmas
 pub mod RuleAnswers
 pub mod RuleLemmas
 pub mod Spelling
+pub mod StatementLemmas
 pub mod SystemLemmas
 pub mod WordsOfForms
 pub mod Zips

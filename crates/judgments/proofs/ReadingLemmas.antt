@@ -47,11 +47,11 @@ module _ (sig : Signature) (metas : List MetaDecl) (names : Names) (bare : IsBar
   no_arguments (one_more {p = p} {params = params} e t r) n = (let never : p ∷ params ≡ [] = n in cc)
   no_arguments (last_one {p = p} {params = params} e t r) n = (let never : p ∷ params ≡ [] = n in cc)
 
-  bare_brackets : {vars : List Variable} {params : List ℕ} {tokens : List Token} {vs : Values} → ReadsBrackets sig metas vars params tokens vs → params ≡ [] → (tokens ≡ []) × (vs ≡ no_values)
+  pub bare_brackets : {vars : List Variable} {params : List ℕ} {tokens : List Token} {vs : Values} → ReadsBrackets sig metas vars params tokens vs → params ≡ [] → (tokens ≡ []) × (vs ≡ no_values)
   bare_brackets no_brackets n = (refl, refl)
   bare_brackets (brackets e r) n = absurd (no_arguments r n)
 
-  no_parameters : (m : ℕ) (decl : MetaDecl) → slice_get metas m ≡ Some decl → map (λ (p : CatId). p.0) decl.params ≡ []
+  pub no_parameters : (m : ℕ) (decl : MetaDecl) → slice_get metas m ≡ Some decl → map (λ (p : CatId). p.0) decl.params ≡ []
   no_parameters m decl g = ap (map (λ (p : CatId). p.0)) (all_at (λ (m : MetaDecl). m.params ≡ []) metas m decl plain g)
 
   abbrev Accounts : (ℕ → Type 0) → List Token → Type 0

@@ -79,3 +79,8 @@ zip_last R [] x [] y h = (tt, h.0)
 zip_last R [] x (z ∷ ys) y h = absurd (nothing_left R ys y h.1)
 zip_last R (z ∷ xs) x [] y h = absurd (nothing_right R xs x h.1)
 zip_last R (u ∷ xs) x (v ∷ ys) y h = let k = zip_last R xs x ys y h.1 in ((h.0, k.0), k.1)
+
+pub all_pick : {X A : Type 0} (f : X → A) (P : A → Type 0) (xs : List X) (i : ℕ) (d : X) → i < length xs → AllByRecursion P (map f xs) → P (f (get_or xs i d))
+all_pick f P [] i d lt h = absurd (let no : ⊥ = omega arith in no)
+all_pick f P (x ∷ xs) zero d lt h = h.0
+all_pick f P (x ∷ xs) (suc i) d lt h = all_pick f P xs i d (omega arith) h.1

@@ -1,6 +1,7 @@
 //! The rules and statements of a file.
 #![tactic(auto)]
 
+mod inputs;
 mod items;
 mod judgment;
 mod laws;
