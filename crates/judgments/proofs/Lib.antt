@@ -6,6 +6,7 @@ pub mod NamedApart
 pub mod Occurring
 pub mod OneOrder
 pub mod OneReading
+pub mod OneStatement
 pub mod ReadingLemmas
 pub mod RuleAnswers
 pub mod RuleLemmas

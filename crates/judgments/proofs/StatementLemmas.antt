@@ -36,7 +36,7 @@ use Rattle.judgments.proofs.Zips.{zip_append, zip_split, zip_unique, zip_right, 
 abbrev pub AreGiven : List WrittenInput → Type 0
 AreGiven inputs = AllByRecursion IsForDerivation inputs
 
-no_terms : (inputs : List WrittenInput) → AreGiven inputs → term_words inputs ≡ []
+pub no_terms : (inputs : List WrittenInput) → AreGiven inputs → term_words inputs ≡ []
 no_terms [] h = refl
 no_terms (for_derivation name form ∷ inputs) h = no_terms inputs h.1
 no_terms (for_term w ∷ inputs) h = absurd h.0
@@ -46,19 +46,19 @@ joined_append [] ys = refl
 joined_append (x ∷ xs) ys = ap (λ l. x ++ l) (joined_append xs ys) ∙ sym (append_assoc x (joined xs) (joined ys))
 
 -- judgments as inputs, and inputs as judgments
-any_given : (m : ℕ) (js : List JudgmentScheme) → AnyByRecursion (OccursInJudgment m) js → AnyByRecursion (OccursInInput m) (map given js)
+pub any_given : (m : ℕ) (js : List JudgmentScheme) → AnyByRecursion (OccursInJudgment m) js → AnyByRecursion (OccursInInput m) (map given js)
 any_given m [] h = h
 any_given m (j ∷ js) (inl h) = inl h
 any_given m (j ∷ js) (inr h) = inr (any_given m js h)
 
-given_any : (m : ℕ) (js : List JudgmentScheme) → AnyByRecursion (OccursInInput m) (map given js) → AnyByRecursion (OccursInJudgment m) js
+pub given_any : (m : ℕ) (js : List JudgmentScheme) → AnyByRecursion (OccursInInput m) (map given js) → AnyByRecursion (OccursInJudgment m) js
 given_any m [] h = h
 given_any m (j ∷ js) (inl h) = inl h
 given_any m (j ∷ js) (inr h) = inr (given_any m js h)
 
 -- the judgments for which inputs stand, and back
 module _ (sig : Signature) (judgments : List Rattle.rule_schemes.specs.declared.rule.Judgment.Judgment) (names : Names) where
-  inputs_read : (inputs : List WrittenInput) (xs : List StatementInput) → AreGiven inputs → AllZip (IsInputOf sig judgments names) inputs xs
+  pub inputs_read : (inputs : List WrittenInput) (xs : List StatementInput) → AreGiven inputs → AllZip (IsInputOf sig judgments names) inputs xs
       → (js : List JudgmentScheme) × (xs ≡ map given js) × AllZip (ReadsOnlyAs sig judgments names) (map input_tokens inputs) js
   inputs_read [] [] all h = ([], refl, tt)
   inputs_read [] (x ∷ xs) all h = absurd h
@@ -68,7 +68,7 @@ module _ (sig : Signature) (judgments : List Rattle.rule_schemes.specs.declared.
   inputs_read (for_derivation name form ∷ inputs) (syntax_input m ∷ xs) all h = absurd h.0
   inputs_read (for_term w ∷ inputs) (x ∷ xs) all h = absurd all.0
 
-  read_inputs : (inputs : List WrittenInput) (js : List JudgmentScheme) → AreGiven inputs → AllZip (ReadsOnlyAs sig judgments names) (map input_tokens inputs) js
+  pub read_inputs : (inputs : List WrittenInput) (js : List JudgmentScheme) → AreGiven inputs → AllZip (ReadsOnlyAs sig judgments names) (map input_tokens inputs) js
       → AllZip (IsInputOf sig judgments names) inputs (map given js)
   read_inputs [] [] all h = tt
   read_inputs [] (j ∷ js) all h = absurd h
@@ -77,13 +77,13 @@ module _ (sig : Signature) (judgments : List Rattle.rule_schemes.specs.declared.
   read_inputs (for_term w ∷ inputs) (j ∷ js) all h = absurd all.0
 
 -- the front and the back of numbered names
-numbered_all : (P : ℕ → Type 0) (xs : List MetaDecl) (n : ℕ) → AllNumbered (λ m d. P m) n xs → (m : ℕ) (d : MetaDecl) → slice_get xs m ≡ Some d → P (n + m)
+pub numbered_all : (P : ℕ → Type 0) (xs : List MetaDecl) (n : ℕ) → AllNumbered (λ m d. P m) n xs → (m : ℕ) (d : MetaDecl) → slice_get xs m ≡ Some d → P (n + m)
 numbered_all P [] n h m d e = absurd (let never : None ≡ Some d = e in cc)
 numbered_all P (x ∷ xs) n h zero d e = (let same : n ≡ n + 0 = omega arith in subst P same h.0)
 numbered_all P (x ∷ xs) n h (suc m) d e = (let same : suc n + m ≡ n + suc m = omega arith in subst P same (numbered_all P xs (suc n) h.1 m d e))
 
 -- a place of two lists is one of the first or of the second
-place_split : (xs ys : List MetaDecl) (m : ℕ) (d : MetaDecl) → slice_get (xs ++ ys) m ≡ Some d → (slice_get xs m ≡ Some d) ⊎ ((k : ℕ) × (m ≡ length xs + k) × (slice_get ys k ≡ Some d))
+pub place_split : (xs ys : List MetaDecl) (m : ℕ) (d : MetaDecl) → slice_get (xs ++ ys) m ≡ Some d → (slice_get xs m ≡ Some d) ⊎ ((k : ℕ) × (m ≡ length xs + k) × (slice_get ys k ≡ Some d))
 place_split [] ys m d e = inr (m, (let same : m ≡ 0 + m = omega arith in same), e)
 place_split (x ∷ xs) ys zero d e = inl e
 place_split (x ∷ xs) ys (suc m) d e = which (place_split xs ys m d e)
@@ -93,27 +93,27 @@ place_split (x ∷ xs) ys (suc m) d e = which (place_split xs ys m d e)
     which (inl h) = inl h
     which (inr h) = inr (h.0, (let same = h.1 in let next : suc m ≡ suc (length xs) + h.0 = omega arith in next), h.2)
 
-place_front : (xs ys : List MetaDecl) (m : ℕ) (d : MetaDecl) → slice_get xs m ≡ Some d → slice_get (xs ++ ys) m ≡ Some d
+pub place_front : (xs ys : List MetaDecl) (m : ℕ) (d : MetaDecl) → slice_get xs m ≡ Some d → slice_get (xs ++ ys) m ≡ Some d
 place_front [] ys m d e = absurd (let never : None ≡ Some d = e in cc)
 place_front (x ∷ xs) ys zero d e = e
 place_front (x ∷ xs) ys (suc m) d e = place_front xs ys m d e
 
-place_back : (xs ys : List MetaDecl) (m : ℕ) (d : MetaDecl) → slice_get ys m ≡ Some d → slice_get (xs ++ ys) (length xs + m) ≡ Some d
+pub place_back : (xs ys : List MetaDecl) (m : ℕ) (d : MetaDecl) → slice_get ys m ≡ Some d → slice_get (xs ++ ys) (length xs + m) ≡ Some d
 place_back [] ys m d e = (let same : m ≡ 0 + m = omega arith in subst (λ k. slice_get ys k ≡ Some d) same e)
 place_back (x ∷ xs) ys m d e =
     (let same : suc (length xs + m) ≡ suc (length xs) + m = omega arith in subst (λ k. slice_get (x ∷ xs ++ ys) k ≡ Some d) same (place_back xs ys m d e))
 
-among_at : (xs : List MetaDecl) (m : ℕ) (d : MetaDecl) (w : List ℕ) → slice_get xs m ≡ Some d → d.name ≡ w → IsAmong w xs
+pub among_at : (xs : List MetaDecl) (m : ℕ) (d : MetaDecl) (w : List ℕ) → slice_get xs m ≡ Some d → d.name ≡ w → IsAmong w xs
 among_at [] m d w e f = absurd (let never : None ≡ Some d = e in cc)
 among_at (x ∷ xs) zero d w e f = inl (let same : x ≡ d = cc in ap (λ (y : MetaDecl). y.name) same ∙ f)
 among_at (x ∷ xs) (suc m) d w e f = inr (among_at xs m d w e f)
 
 -- each with its place
-each_at : (P : MetaDecl → Type 0) (xs : List MetaDecl) → ((m : ℕ) (d : MetaDecl) → slice_get xs m ≡ Some d → P d) → AllByRecursion P xs
+pub each_at : (P : MetaDecl → Type 0) (xs : List MetaDecl) → ((m : ℕ) (d : MetaDecl) → slice_get xs m ≡ Some d → P d) → AllByRecursion P xs
 each_at P [] f = tt
 each_at P (x ∷ xs) f = (f zero x refl, each_at P xs (λ m d e. f (suc m) d e))
 
-different_front : (xs ys : List MetaDecl) → AreDifferentNames (map (λ (m : MetaDecl). m.name) (xs ++ ys)) → AreDifferentNames (map (λ (m : MetaDecl). m.name) xs)
+pub different_front : (xs ys : List MetaDecl) → AreDifferentNames (map (λ (m : MetaDecl). m.name) (xs ++ ys)) → AreDifferentNames (map (λ (m : MetaDecl). m.name) xs)
 different_front [] ys h = tt
 different_front (x ∷ xs) ys h = (front xs h.0, different_front xs ys h.1)
   where
@@ -146,19 +146,19 @@ order_later ts us [] none h = tt
 order_later ts us (y ∷ []) none h = tt
 order_later ts us (y ∷ (z ∷ ys)) none h = (h.0, before_later y.name z.name ts us none.1.0 h.1, order_later ts us (z ∷ ys) none.1 h.2)
 
-order_rest : (ts us : List Token) (ys : List MetaDecl) → AllByRecursion (λ (m : MetaDecl). StandsIn m.name ts → ⊥) ys → AreInOrder (ts ++ us) ys → AreInOrder us ys
+pub order_rest : (ts us : List Token) (ys : List MetaDecl) → AllByRecursion (λ (m : MetaDecl). StandsIn m.name ts → ⊥) ys → AreInOrder (ts ++ us) ys → AreInOrder us ys
 order_rest ts us [] none h = tt
 order_rest ts us (y ∷ []) none h = tt
 order_rest ts us (y ∷ (z ∷ ys)) none h = (h.0, before_rest y.name z.name ts us none.0 h.1, order_rest ts us (z ∷ ys) none.1 h.2)
 
-order_tail : (ts : List Token) (xs ys : List MetaDecl) → AreInOrder ts (xs ++ ys) → AreInOrder ts ys
+pub order_tail : (ts : List Token) (xs ys : List MetaDecl) → AreInOrder ts (xs ++ ys) → AreInOrder ts ys
 order_tail ts [] ys h = h
 order_tail ts (x ∷ []) [] h = tt
 order_tail ts (x ∷ []) (y ∷ ys) h = h.2
 order_tail ts (x ∷ (z ∷ xs)) ys h = order_tail ts (z ∷ xs) ys h.2
 
 -- those of the front first, and then those that do not stand there
-order_both : (ts us : List Token) (xs ys : List MetaDecl) → AreInOrder ts xs → AllByRecursion (λ (m : MetaDecl). StandsIn m.name ts) xs → AllByRecursion (λ (m : MetaDecl). StandsIn m.name ts → ⊥) ys
+pub order_both : (ts us : List Token) (xs ys : List MetaDecl) → AreInOrder ts xs → AllByRecursion (λ (m : MetaDecl). StandsIn m.name ts) xs → AllByRecursion (λ (m : MetaDecl). StandsIn m.name ts → ⊥) ys
     → AreInOrder us ys → AreInOrder (ts ++ us) (xs ++ ys)
 order_both ts us [] ys h stand none k = order_later ts us ys none k
 order_both ts us (x ∷ []) [] h stand none k = tt
