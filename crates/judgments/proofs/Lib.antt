@@ -12,6 +12,7 @@ pub mod RuleAnswers
 pub mod RuleLemmas
 pub mod Spelling
 pub mod StatementLemmas
+pub mod StatementSays
 pub mod SystemLemmas
 pub mod WordsOfForms
 pub mod Zips

@@ -37,17 +37,17 @@ among_place (x ∷ xs) w (inl e) = (zero, x, refl, e)
 among_place (x ∷ xs) w (inr a) = let k = among_place xs w a in (suc k.0, k.1, k.2, k.3)
 
 -- a name of the second list is none of the first
-never_both : (xs ys : List MetaDecl) (k : ℕ) (d : MetaDecl) → AreDifferentNames (map (λ (m : MetaDecl). m.name) (xs ++ ys)) → slice_get ys k ≡ Some d → IsAmong d.name xs → ⊥
+pub never_both : (xs ys : List MetaDecl) (k : ℕ) (d : MetaDecl) → AreDifferentNames (map (λ (m : MetaDecl). m.name) (xs ++ ys)) → slice_get ys k ≡ Some d → IsAmong d.name xs → ⊥
 never_both xs ys k d differ g a =
     let p = among_place xs d.name a in
     let same : p.0 ≡ length xs + k = one_place (xs ++ ys) p.0 (length xs + k) p.1 d differ (place_front xs ys p.0 p.1 p.2) (place_back xs ys k d g) p.3 in
     let within : p.0 < length xs = slice_get_within xs p.0 p.1 p.2 in
     (let no : ⊥ = omega arith in no)
 
-same_place : (xs : List MetaDecl) (m : ℕ) (d e : MetaDecl) → slice_get xs m ≡ Some d → slice_get xs m ≡ Some e → d ≡ e
+pub same_place : (xs : List MetaDecl) (m : ℕ) (d e : MetaDecl) → slice_get xs m ≡ Some d → slice_get xs m ≡ Some e → d ≡ e
 same_place xs m d e g h = (let two : Some d ≡ Some e = sym g ∙ h in cc)
 
-given_inputs : (sig : Rattle.binding_terms.specs.Signature.Signature) (js : List Rattle.rule_schemes.specs.declared.rule.Judgment.Judgment) (names : Names) (inputs : List WrittenInput) (xs : List StatementInput)
+pub given_inputs : (sig : Rattle.binding_terms.specs.Signature.Signature) (js : List Rattle.rule_schemes.specs.declared.rule.Judgment.Judgment) (names : Names) (inputs : List WrittenInput) (xs : List StatementInput)
     → AllZip (IsInputOf sig js names) inputs xs → AllByRecursion IsGivenInput xs → AreGiven inputs
 given_inputs sig js names [] [] h k = tt
 given_inputs sig js names [] (x ∷ xs) h k = absurd h

@@ -9,6 +9,7 @@ mod names;
 mod naming;
 mod readings;
 mod rules;
+mod statements;
 mod system;
 mod words;
 
