@@ -11,6 +11,7 @@ pub mod ReadingLemmas
 pub mod RuleAnswers
 pub mod RuleLemmas
 pub mod Spelling
+pub mod StatementAnswers
 pub mod StatementLemmas
 pub mod StatementSays
 pub mod SystemLemmas
