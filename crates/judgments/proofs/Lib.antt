@@ -1,5 +1,6 @@
 pub mod BareForms
 pub mod Collecting
+pub mod FileStatements
 pub mod GoodRules
 pub mod ItemLemmas
 pub mod NamedApart

@@ -14,4 +14,5 @@ mod system;
 mod words;
 
 pub use laws::{readings_are_in_scope, spellings_are_names};
+pub use statements::statements_of;
 pub use system::system_of;

@@ -17,7 +17,7 @@ ghost use Rattle.judgments.specs.Built.{IsBuiltTheorem, bare_text};
 ghost use Rattle.judgments.specs.Collected.{AreCollected};
 ghost use Rattle.judgments.specs.Statements.{AreStatementsOf, IsNamedFreely, AreNamedDifferently};
 ghost use Rattle.judgments.specs.Texts.{theorem_in, theorems_in, group_of, groups_after};
-ghost use Rattle.judgments.specs.Views.{given_text};
+ghost use Rattle.judgments.specs.Views.{given_text, input_text};
 ghost use Rattle.judgments.specs.Written.{ReadsOnlyAs};
 
 use crate::inputs::{all_named_freely, given_of, named_differently};
@@ -26,7 +26,7 @@ use crate::naming::{Declares, named_apart};
 use crate::readings::{read_form, read_forms, scope_of};
 use crate::words::{number, text_of};
 use binding_terms::{NoMemory, Sig};
-use outline_reader::{Form, Name, NamedForm, Outline, Portion};
+use outline_reader::{Form, InputText, Name, NamedForm, Outline, Portion};
 use rule_schemes::{Input, JScheme, ReadScope, Statement, System};
 use scheme_terms::{MetaDecl, Scope};
 use sqlite_items::Items;
@@ -175,4 +175,145 @@ fn statement_of(
         Some(parts) => Ok(Some(made(alloc, group, name, scope, parts)?)),
         None => Ok(None),
     }
+}
+
+/// The statement of a theorem without a root and targets. One with an input that is a term is not built yet.
+fn theorem_of(
+    alloc: Global,
+    sys: &System,
+    group: usize,
+    name: Name<'_>,
+    inputs: &[InputText<'_>],
+    outputs: &[Form<'_>],
+) -> Result<Option<Statement>, NoMemory>
+    requires { IsBareTheory (theory sys.now) }
+    ensures { IfOk result (λ found. MatchOption found
+        ((st : Theorem) → IsBuiltTheorem (theory sys.now) (bare_text group name.now.text.now (map input_text inputs.now) (map (λ form. map kind_and_text form.now) outputs.now)) st → ⊥)
+        (λ st. IsBuiltTheorem (theory sys.now) (bare_text group name.now.text.now (map input_text inputs.now) (map (λ form. map kind_and_text form.now) outputs.now)) (plain_statement st))) }
+{
+    match given_of(alloc, inputs)? {
+        Some(given) => statement_of(alloc, sys, group, name, given.as_slice(), outputs),
+        None => Ok(None),
+    }
+}
+
+/// The number of the theorem's group, where so many groups stand before it.
+fn group_of(groups: usize, joined: bool) -> usize
+    ensures { result ≡ group_of groups joined }
+{
+    if joined {
+        groups.saturating_sub(1)
+    } else {
+        groups
+    }
+}
+
+/// The number of groups up to a portion.
+fn groups_after(groups: usize, portion: &Portion<'_>) -> Result<usize, NoMemory>
+    ensures { IfOk result (λ n. n ≡ groups_after groups (plain_portion (portion_view portion.now))) }
+{
+    match portion {
+        Portion::Theorem { joined, .. } => match group_of(groups, *joined).checked_add(1) {
+            Some(next) => Ok(next),
+            None => Err(NoMemory),
+        },
+        _ => Ok(groups),
+    }
+}
+
+fn alone(alloc: Global, statement: Statement) -> Result<Vec<Statement>, NoMemory>
+    ensures { IfOk result (λ all. all.items ≡ statement ∷ []) }
+{
+    let mut all = Vec::new(alloc);
+    all.push(statement)?;
+    Ok(all)
+}
+
+/// The statement of the portion, alone, or none where it is no theorem. A theorem with a root or targets is not built yet.
+fn stated(
+    alloc: Global,
+    sys: &System,
+    groups: usize,
+    portion: &Portion<'_>,
+) -> Result<Option<Vec<Statement>>, NoMemory>
+    requires { IsBareTheory (theory sys.now) }
+    ensures { IfOk result (λ found. MatchOption found
+        ((sts : List Theorem) → AllZip (IsBuiltTheorem (theory sys.now)) (theorem_in groups (plain_portion (portion_view portion.now))) sts → ⊥)
+        (λ sts. AllZip (IsBuiltTheorem (theory sys.now)) (theorem_in groups (plain_portion (portion_view portion.now))) (map plain_statement sts.items))) }
+{
+    match portion {
+        Portion::Theorem {
+            joined,
+            name,
+            assumes,
+            inputs,
+            outputs,
+            targets,
+            ..
+        } => {
+            if assumes.is_some() {
+                return Ok(None);
+            }
+            if targets.len() != 0 {
+                return Ok(None);
+            }
+            let group = group_of(groups, *joined);
+            match theorem_of(alloc, sys, group, name, inputs.as_slice(), outputs.as_slice())? {
+                Some(statement) => Ok(Some(alone(alloc, statement)?)),
+                None => Ok(None),
+            }
+        }
+        _ => Ok(Some(Vec::new(alloc))),
+    }
+}
+
+fn join(all: &mut Vec<Statement>, mut more: Vec<Statement>) -> Result<(), NoMemory>
+    ensures { OnOk result (all.new.items ≡ all.old.items ++ more.items) }
+{
+    all.append(&mut more)?;
+    Ok(())
+}
+
+/// The statements of the portions.
+fn all_stated(
+    alloc: Global,
+    outline: &Outline<'_>,
+    sys: &System,
+) -> Result<Option<Vec<Statement>>, NoMemory>
+    requires { IsBareTheory (theory sys.now) }
+    ensures { IfOk result (λ found. MatchOption found
+        ((sts : List Theorem) → AllZip (IsBuiltTheorem (theory sys.now)) (theorems_in 0 (outlined outline.now)) sts → ⊥)
+        (λ sts. AllZip (IsBuiltTheorem (theory sys.now)) (theorems_in 0 (outlined outline.now)) (map plain_statement sts.items))) }
+{
+    let mut all = Vec::new(alloc);
+    let mut groups = 0;
+    for portion in outline.parts.as_slice() {
+        match stated(alloc, sys, groups, portion)? {
+            Some(more) => join(&mut all, more)?,
+            None => return Ok(None),
+        }
+        groups = groups_after(groups, portion)?;
+    }
+    Ok(Some(all))
+}
+
+/// The statements for which the theorems of the outline stand over the system of its judgments and rules, as far as is built. `None`
+/// where there are none: the statement of a theorem is faulty, or not built yet.
+pub fn statements_of(
+    alloc: Global,
+    outline: &Outline<'_>,
+    sys: &System,
+) -> Result<Option<Vec<Statement>>, NoMemory>
+    requires { IsBareTheory (theory sys.now) }
+    ensures { IfOk result (λ found. MatchOption found
+        ((sts : List Theorem) → AreStatementsOf (outlined outline.now) (theory sys.now) sts → AllByRecursion IsBareStatement sts → ⊥)
+        (λ sts. AreStatementsOf (outlined outline.now) (theory sys.now) (map plain_statement sts.items)
+            × AllByRecursion IsBareStatement (map plain_statement sts.items)
+            × ((others : List Theorem) → AreStatementsOf (outlined outline.now) (theory sys.now) others
+                → AllByRecursion IsBareStatement others → others ≡ map plain_statement sts.items))) }
+{
+    if !named_apart(Declares::Theorem, outline.parts.as_slice()) {
+        return Ok(None);
+    }
+    all_stated(alloc, outline, sys)
 }
