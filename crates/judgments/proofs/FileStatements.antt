@@ -1,5 +1,5 @@
 -- The statements of a file, portion by portion.
-use Rattle.std.proofs.Common.{◌≡◌, ◌≢◌, ◌+◌, ◌<◌, ℕ, Bool, List, [], ◌∷◌, ◌++◌, length, map, take, drop, get_or, refl, ap, ◌∙◌, sym, subst, arith, Option, Some, None, append-nil, append_assoc}
+use Rattle.std.proofs.Common.{◌≡◌, ◌≢◌, ◌+◌, ◌<◌, ℕ, Bool, List, [], ◌∷◌, ◌++◌, length, map, take, drop, get_or, refl, ap, ◌∙◌, sym, subst, arith, Option, Some, None, MatchOption, IfOk, Result, Ok, Err, append-nil, append_assoc}
 use Rattle.std.specs.Prelude.{option_map}
 use Rattle.std.specs.List.{AllByRecursion, AllZip}
 use Rattle.std.proofs.lemmas.List.{take_more, drop_more, take-append-drop}
@@ -142,3 +142,23 @@ module _ (th : Theory) (bare : IsBareTheory th) (portions : List PlainPortion) w
 
   pub no_statements : ((sts : List Theorem) → AllZip (IsBuiltTheorem th) (theorems_in 0 portions) sts → ⊥) → (sts : List Theorem) → AreStatementsOf portions th sts → AllByRecursion IsBareStatement sts → ⊥
   no_statements none sts h k = none sts (built_from sts h k)
+
+pub no_texts : {X : Type 0} (now : X → of_token.Token) (xs : List X) → length xs ≡ 0 → map (λ (t : PlainToken). t.text) (map token_view (map now xs)) ≡ []
+no_texts now [] e = refl
+no_texts now (x ∷ xs) e = (let no : ⊥ = omega arith in absurd no)
+
+pub some_texts : {X : Type 0} (now : X → of_token.Token) (xs : List X) → (length xs ≡ 0 → ⊥) → map (λ (t : PlainToken). t.text) (map token_view (map now xs)) ≢ []
+some_texts now [] h e = h refl
+some_texts now (x ∷ xs) h e = (let both : (token_view (now x)).text ∷ map (λ (t : PlainToken). t.text) (map token_view (map now xs)) ≡ [] = e in cc)
+
+pub none_assumed : {X : Type 0} (now : X → of_token.Token) (o : Option X) → o ≡ None → option_map token_view (option_map now o) ≡ None
+none_assumed now o e = ap (λ p. option_map token_view (option_map now p)) e
+
+pub none_when_not_some : {X : Type 0} (o : Option X) → Rattle.std.specs.Prelude.is_some o ≡ Rattle.std.proofs.Common.false → o ≡ None
+none_when_not_some None e = refl
+none_when_not_some (Some x) e = (let never : Rattle.std.proofs.Common.true ≡ Rattle.std.proofs.Common.false = e in cc)
+
+pub if_found : {V E : Type 0} (A C : Type 0) (P Q : V → Type 0) → (A → C) → ((v : V) → P v → Q v) → (r : Result (Option V) E) → IfOk r (λ o. MatchOption o A P) → IfOk r (λ o. MatchOption o C Q)
+if_found A C P Q f g (Ok None) h = f h
+if_found A C P Q f g (Ok (Some v)) h = g v h
+if_found A C P Q f g (Err e) h = tt
