@@ -1,13 +1,13 @@
 -- The one readings of forms over bare judgments: their tokens, their scopes and their names.
-use Rattle.std.proofs.Common.{◌≡◌, ◌≢◌, ◌⊎◌, ◌<◌, ◌≤◌, ℕ, zero, suc, List, [], ◌∷◌, ◌++◌, length, map, inl, inr, refl, ap, ◌∙◌, sym, subst, arith, IsTrue, false, Option, Some, None, slice_get, MatchOption, append-nil}
+use Rattle.std.proofs.Common.{◌≡◌, ◌≢◌, ◌⊎◌, ℕ, zero, suc, List, [], ◌∷◌, length, map, inl, inr, refl, ap, ◌∙◌, sym, subst, arith, IsTrue, false, Some, None, slice_get, MatchOption, append-nil}
 use Rattle.std.specs.Prelude.{not}
 use Rattle.std.specs.List.{AllByRecursion, AllZip}
-use Rattle.binding_terms.specs.Numbered.{AnyByRecursion, AllNumbered}
+use Rattle.binding_terms.specs.Numbered.{AnyByRecursion}
 use Rattle.binding_terms.specs.Signature.{Signature, slots}
 use Rattle.binding_terms.specs.declared.grammar.Cat.{Cat}
 use Rattle.binding_terms.specs.declared.grammar.CatId.{CatId}
 use Rattle.scheme_terms.specs.Forms.{Names}
-use Rattle.scheme_terms.specs.SchemeTree.{SchemeTree, OccursIn}
+use Rattle.scheme_terms.specs.SchemeTree.{OccursIn}
 use Rattle.scheme_terms.specs.SchemeScope.{AreSchemes}
 use Rattle.scheme_terms.specs.declared.scheme.MetaDecl.{MetaDecl}
 use Rattle.scheme_terms.specs.declared.scheme.Root.TheVariants.{Closed}
@@ -18,11 +18,11 @@ use Rattle.rule_schemes.specs.Said.{Want, want_judgment, Written, a_judgment, Re
 use Rattle.rule_schemes.specs.Statement.{OccursInJudgment}
 use Rattle.rule_schemes.specs.declared.rule.Judgment.{Judgment}
 use Rattle.scheme_terms.specs.Forms.{KnownVariable, SchemeEntry}
-use Rattle.judgments.specs.Bare.{IsBareItem, IsBareSignature, IsBareJudgment, IsBareTheory}
-use Rattle.judgments.specs.Collected.{StandsIn, IsAmong, IsCollected, AreCollected}
+use Rattle.judgments.specs.Bare.{IsBareSignature, IsBareJudgment}
+use Rattle.judgments.specs.Collected.{StandsIn, IsCollected, AreCollected}
 use Rattle.judgments.specs.Laws.{AreBareNames, ReadingsAreInScope, IsNamedIn, SpellingsAreNames}
 use Rattle.judgments.specs.Named.{IsWordOf, IsNamed, AreNamesOf}
-use Rattle.judgments.specs.Spellings.{IsSpellingOf, IsNoSpelling}
+use Rattle.judgments.specs.Spellings.{IsSpellingOf}
 use Rattle.judgments.specs.Written.{settled, ReadsOnlyAs}
 use Rattle.judgments.proofs.Collecting.{all_map}
 use Rattle.judgments.proofs.ReadingLemmas.{all_at, IsAccounted, opens, closes, as_terminal, as_name, weaker, form_tokens, form_schemes}

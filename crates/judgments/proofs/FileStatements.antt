@@ -6,7 +6,7 @@ use Rattle.std.proofs.lemmas.List.{take_more, drop_more, take-append-drop}
 use Rattle.sy_base.specs.Tokens.{PlainToken}
 use Rattle.proof_lexer.specs.View.{token_view, kind_and_text}
 use Rattle.proof_lexer.specs.declared.token.Token as of_token
-use Rattle.outline_reader.specs.Plain.{PlainPortion, PlainInput, plain_form, plain_input}
+use Rattle.outline_reader.specs.Plain.{PlainPortion, plain_form, plain_input}
 use Rattle.outline_reader.specs.Views.{input_view}
 use Rattle.outline_reader.specs.declared.parts.InputText.{InputText}
 use Rattle.scheme_terms.specs.declared.scheme.Root.{Root}
@@ -17,9 +17,9 @@ use Rattle.rule_schemes.specs.Statement.{Theorem}
 use Rattle.judgments.specs.Bare.{IsBareTheory, IsBareStatement}
 use Rattle.judgments.specs.Built.{IsBuiltTheorem, bare_text}
 use Rattle.judgments.specs.Statements.{IsAssumedRoot, IsTheoremOf, AreTargetsEven, AreStatementsOf}
-use Rattle.judgments.specs.Texts.{TheoremText, as_read, written_input, theorem_in, theorems_in, group_of, groups_after}
+use Rattle.judgments.specs.Texts.{TheoremText, as_read, written_input, theorem_in, theorems_in, groups_after}
 use Rattle.judgments.specs.Theory.{a_theorem, AreNamedApart}
-use Rattle.judgments.specs.Views.{input_text, given_text}
+use Rattle.judgments.specs.Views.{input_text}
 use Rattle.judgments.specs.Written.{WrittenInput, IsTarget}
 use Rattle.judgments.proofs.StatementLemmas.{AreGiven}
 use Rattle.judgments.proofs.StatementSays.{all, one_statement}

@@ -1,40 +1,32 @@
 -- What rules that stand for written ones meet: their forms are in scope, and each metavariable is strict.
-use Rattle.std.proofs.Common.{◌≡◌, ◌≢◌, ◌⊎◌, ◌+◌, ◌<◌, ◌≤◌, ℕ, zero, suc, List, [], ◌∷◌, ◌++◌, length, map, inl, inr, refl, ap, ◌∙◌, sym, subst, arith, Option, Some, None, slice_get, MatchOption, false}
+use Rattle.std.proofs.Common.{◌≡◌, ◌⊎◌, ◌+◌, ◌≤◌, ℕ, zero, suc, List, [], ◌∷◌, ◌++◌, length, map, inl, inr, refl, ap, sym, subst, arith, slice_get, MatchOption}
 use Rattle.std.specs.List.{AllByRecursion, AllZip}
 use Rattle.binding_terms.specs.Numbered.{AnyByRecursion, AllNumbered}
-use Rattle.binding_terms.specs.Signature.{Signature, Place, slots, binders, IsPlain}
-use Rattle.binding_terms.specs.declared.grammar.Cat.{Cat}
+use Rattle.binding_terms.specs.Signature.{Signature, Place, slots, binders}
 use Rattle.binding_terms.specs.declared.grammar.CatId.{CatId}
-use Rattle.binding_terms.specs.declared.grammar.Item.{Item}
-use Rattle.binding_terms.specs.declared.grammar.Item.TheVariants.{Word, Slot, Binder}
 use Rattle.binding_terms.specs.declared.grammar.Prod.{Prod}
-use Rattle.sy_base.specs.Tokens.{PlainToken}
-use Rattle.outline_reader.specs.Plain.{PlainPortion}
 use Rattle.scheme_terms.specs.Forms.{Names, SchemeContext, SchemeEntry}
 use Rattle.scheme_terms.specs.SchemeTree.{SchemeTree, meta, known, local, con, Values, no_values, value, Parts, no_parts, part, OccursIn, OccursInParts, StrictIn, StrictInParts}
 use Rattle.scheme_terms.specs.SchemeScope.{IsScheme, AreSchemeParts, AreSchemes, AreValues, StandsWith}
 use Rattle.scheme_terms.specs.declared.scheme.MetaDecl.{MetaDecl}
 use Rattle.scheme_terms.specs.declared.scheme.Root.{Root}
 use Rattle.scheme_terms.specs.declared.scheme.Root.TheVariants.{Closed}
-use Rattle.rule_schemes.specs.Plain.{HasPlainNames, IsPlainSignature}
 use Rattle.rule_schemes.specs.Reading.{Token}
-use Rattle.rule_schemes.specs.Refused.{AllStrict, Refuses, IsFirstUnstrict, IsFirstMisplaced, AssumeAlike, with_rule}
-use Rattle.rule_schemes.specs.Rules.{JudgmentScheme, Rule, Theory, rule_root, rule_names, IsJudgmentScheme, IsRootOf, argument_slots, HasForms, HasGoodConclusion, IsBareName, StrictInRule, StrictInJudgment, StrictInEntries, IsAssumption, IsOneEntry, JudgmentFits, MayStand, assumed_by}
+use Rattle.rule_schemes.specs.Refused.{Refuses, IsFirstUnstrict, IsFirstMisplaced, AssumeAlike, with_rule}
+use Rattle.rule_schemes.specs.Rules.{JudgmentScheme, Rule, Theory, rule_root, rule_names, IsJudgmentScheme, IsRootOf, argument_slots, IsBareName, StrictInRule, StrictInJudgment, IsAssumption, IsOneEntry, MayStand, assumed_by}
 use Rattle.rule_schemes.specs.Statement.{OccursInJudgment}
 use Rattle.rule_schemes.specs.declared.fault.RuleFault.{RuleFault}
 use Rattle.rule_schemes.specs.declared.fault.RuleFault.TheVariants as faults
 use Rattle.rule_schemes.specs.declared.rule.Judgment.{Judgment}
-use Rattle.judgments.specs.Bare.{IsBareSignature, IsBareJudgment, IsBareTheory}
-use Rattle.judgments.specs.Built.{IsBuiltJudgment, IsGoodRule}
-use Rattle.judgments.specs.Collected.{IsCollected, AreCollected}
+use Rattle.judgments.specs.Bare.{IsBareTheory}
+use Rattle.judgments.specs.Built.{IsGoodRule}
+use Rattle.judgments.specs.Collected.{AreCollected}
 use Rattle.judgments.specs.Laws.{AreBareNames}
-use Rattle.judgments.specs.Spellings.{IsSpellingOf, AreSpelledApart}
-use Rattle.judgments.specs.Texts.{RuleText, JudgmentText, rule_forms}
-use Rattle.judgments.specs.Theory.{IsBlockRule, IsItemOf, IsJudgmentOf, IsAssumedCategory}
+use Rattle.judgments.specs.Texts.{RuleText, rule_forms}
+use Rattle.judgments.specs.Theory.{IsBlockRule}
 use Rattle.judgments.specs.Written.{ReadsOnlyAs}
 use Rattle.judgments.proofs.BareForms.{form_in_scope}
-use Rattle.judgments.proofs.Collecting.{all_map, any_split}
-use Rattle.judgments.proofs.ReadingLemmas.{all_at}
+use Rattle.judgments.proofs.Collecting.{any_split}
 use Rattle.judgments.proofs.RuleLemmas.{closed_names, bare_names, numbered, no_context_read, all_used, over_closed, rule_says}
 use Rattle.judgments.proofs.WordsOfForms.{joined}
 use Rattle.judgments.proofs.Zips.{zip_append, zip_right}

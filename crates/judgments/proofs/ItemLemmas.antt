@@ -1,20 +1,17 @@
 -- The items for which tokens stand.
-use Rattle.std.proofs.Common.{◌≡◌, ◌≢◌, ◌↔◌, ◌⊎◌, ◌≤◌, ◌<◌, ◌+◌, IsTrue, Bool, true, false, ℕ, None, List, [], ◌∷◌, ◌++◌, length, map, take, drop, get_or, inl, inr, refl, ap, ◌∙◌, sym, subst, arith, append_assoc, append-nil}
+use Rattle.std.proofs.Common.{◌≡◌, ◌↔◌, ◌⊎◌, ◌≤◌, ◌<◌, ◌+◌, IsTrue, Bool, true, false, ℕ, None, List, [], ◌∷◌, ◌++◌, length, map, take, drop, get_or, inl, inr, refl, ap, ◌∙◌, sym, subst, arith, append_assoc, append-nil}
 use Rattle.std.proofs.lemmas.List.{take_more, drop_more, take-append-drop}
-use Rattle.std.specs.List.{AllZip, AllByRecursion}
+use Rattle.std.specs.List.{AllZip}
 use Rattle.binding_terms.specs.Signature.{Signature}
-use Rattle.binding_terms.specs.declared.grammar.CatId.{CatId}
 use Rattle.binding_terms.specs.declared.grammar.Item.{Item}
-use Rattle.binding_terms.specs.declared.grammar.Item.TheVariants.{Word, Slot, Binder}
 use Rattle.sy_base.specs.Tokens.{PlainToken, is_numeral}
 use Rattle.outline_reader.specs.Plain.{PlainPortion}
-use Rattle.judgments.specs.Spellings.{IsNoSpelling, IsSpellingOf, AreSpelledApart}
+use Rattle.judgments.specs.Spellings.{IsNoSpelling}
 use Rattle.rule_schemes.specs.declared.rule.Judgment.{Judgment}
-use Rattle.judgments.specs.Bare.{IsBareItem, IsBareJudgment}
+use Rattle.judgments.specs.Bare.{IsBareItem}
 use Rattle.judgments.specs.Built.{IsBuiltItem, IsBuiltJudgment}
 use Rattle.judgments.specs.Texts.{IsListed, JudgmentText, judgment_in, judgments_in}
-use Rattle.judgments.specs.Theory.{IsTerminalToken, IsItemOf, IsJudgmentOf}
-use Rattle.judgments.proofs.Spelling.{none_spelled}
+use Rattle.judgments.specs.Theory.{IsTerminalToken, IsItemOf}
 use Rattle.judgments.proofs.Zips.{zip_append, zip_split, map_append, zip_map, zip_both, zip_right}
 
 -- a word that is no numeral

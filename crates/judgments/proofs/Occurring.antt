@@ -1,5 +1,5 @@
 -- What stands in a reading stands in its tokens, where nothing binds.
-use Rattle.std.proofs.Common.{◌≡◌, ◌⊎◌, ℕ, List, [], ◌∷◌, ◌++◌, map, inl, inr, refl, ap, ◌∙◌, sym, subst, Option, Some, None, slice_get}
+use Rattle.std.proofs.Common.{◌≡◌, ℕ, List, [], ◌∷◌, ◌++◌, inl, inr, refl, ap, ◌∙◌, sym, subst, Option, Some, None, slice_get}
 use Rattle.std.specs.List.{AllByRecursion, AllZip}
 use Rattle.binding_terms.specs.Numbered.{AnyByRecursion}
 use Rattle.binding_terms.specs.Signature.{Signature, Place, slots}
@@ -7,7 +7,7 @@ use Rattle.binding_terms.specs.declared.grammar.CatId.{CatId}
 use Rattle.binding_terms.specs.declared.grammar.Prod.{Prod}
 use Rattle.binding_terms.specs.declared.grammar.Item.{Item}
 use Rattle.scheme_terms.specs.Forms.{Names, KnownVariable}
-use Rattle.scheme_terms.specs.SchemeTree.{SchemeTree, meta, con, Values, no_values, Parts, OccursIn, OccursInValues, OccursInParts}
+use Rattle.scheme_terms.specs.SchemeTree.{SchemeTree, meta, Values, no_values, Parts, OccursIn, OccursInValues, OccursInParts}
 use Rattle.scheme_terms.specs.declared.scheme.MetaDecl.{MetaDecl}
 use Rattle.rule_schemes.specs.Reading.{Token, word, punctuation, Variable, Means, ReadingScope, known_words, slot_variables, ReadsTerm, group, metavariable, variable, production, ReadsItems, all_read, terminal, binder, slot, ReadsForm, form_end, form_terminal, form_context, form_slot, ReadsJudgment, without_context, with_context}
 use Rattle.rule_schemes.specs.Rules.{JudgmentScheme}
@@ -17,7 +17,7 @@ use Rattle.judgments.specs.Bare.{IsBareSignature, IsBareJudgment}
 use Rattle.judgments.specs.Collected.{StandsIn}
 use Rattle.judgments.specs.Laws.{AreBareNames}
 use Rattle.judgments.specs.Named.{IsWordOf}
-use Rattle.judgments.specs.Written.{settled, ReadsOnlyAs}
+use Rattle.judgments.specs.Written.{ReadsOnlyAs}
 use Rattle.judgments.proofs.BareForms.{reads_as}
 use Rattle.judgments.proofs.Collecting.{any_front, any_back}
 use Rattle.judgments.proofs.ReadingLemmas.{all_at, not_variable, bare_brackets, no_parameters}

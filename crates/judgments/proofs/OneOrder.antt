@@ -1,12 +1,10 @@
 -- Names in the order of their first places are told by the tokens alone.
-use Rattle.std.proofs.Common.{◌≡◌, ◌≢◌, ◌⊎◌, ℕ, zero, suc, List, [], ◌∷◌, map, inl, inr, refl, ap, ◌∙◌, sym, subst, Some, None, slice_get, MatchOption}
+use Rattle.std.proofs.Common.{◌≡◌, ◌≢◌, ◌⊎◌, ℕ, zero, suc, List, [], ◌∷◌, map, inl, inr, refl, ap, ◌∙◌, sym, subst, Some, None, slice_get}
 use Rattle.std.specs.List.{AllByRecursion}
-use Rattle.binding_terms.specs.Numbered.{AnyByRecursion}
 use Rattle.binding_terms.specs.Signature.{Signature}
-use Rattle.binding_terms.specs.declared.grammar.CatId.{CatId}
 use Rattle.scheme_terms.specs.SchemeScope.{AreDifferentNames}
 use Rattle.scheme_terms.specs.declared.scheme.MetaDecl.{MetaDecl}
-use Rattle.rule_schemes.specs.Reading.{Token, word}
+use Rattle.rule_schemes.specs.Reading.{Token}
 use Rattle.rule_schemes.specs.NewNames.{AreInOrder, StandsBefore}
 use Rattle.judgments.specs.Spellings.{IsSpellingOf, AreSpelledApart}
 use Rattle.judgments.specs.Collected.{IsAmong, StandsIn, IsCollected, AreCollected}

@@ -1,7 +1,6 @@
 -- What the answers to a reading say of the one reading of a form.
-use Rattle.std.proofs.Common.{◌≡◌, ◌≢◌, ◌<◌, ◌≤◌, ℕ, List, [], ◌∷◌, ◌++◌, length, map, refl, ap, ◌∙◌, sym, subst, arith, Option, Some, None, MatchOption}
+use Rattle.std.proofs.Common.{◌≡◌, ◌<◌, ◌≤◌, ℕ, List, [], ◌∷◌, length, map, refl, ap, ◌∙◌, sym, subst, arith, Option, Some, None, MatchOption}
 use Rattle.std.specs.List.{AllByRecursion}
-use Rattle.std.proofs.lemmas.List.{length-map}
 use Rattle.binding_terms.specs.Signature.{Signature}
 use Rattle.proof_lexer.specs.View as lexed
 use Rattle.proof_lexer.specs.View.{kind_and_text}
@@ -11,12 +10,12 @@ use Rattle.proof_lexer.specs.declared.token.Token as of_token
 use Rattle.scheme_terms.specs.Forms.{Names}
 use Rattle.scheme_terms.specs.declared.scheme.MetaDecl.{MetaDecl}
 use Rattle.scheme_terms.specs.Forms.{KnownVariable}
-use Rattle.rule_schemes.specs.Reading.{Token, ReadingScope, not_fresh, ReadsJudgment, without_context, with_context}
+use Rattle.rule_schemes.specs.Reading.{Token, ReadingScope, not_fresh, without_context, with_context}
 use Rattle.rule_schemes.specs.Rules.{JudgmentScheme}
-use Rattle.rule_schemes.specs.Said.{Want, want_term, want_judgment, want_context, Written, a_term, a_judgment, a_context, Said, ReadsWanted, reads_term, reads_judgment, reads_context, Reads, ReadsAs, HasOneReading, HasNoReading, AreFirstTwo}
+use Rattle.rule_schemes.specs.Said.{Want, want_judgment, Written, a_judgment, Said, ReadsWanted, reads_term, reads_judgment, reads_context, HasOneReading, HasNoReading, AreFirstTwo}
 use Rattle.rule_schemes.specs.declared.rule.Judgment.{Judgment}
 use Rattle.rule_schemes.specs.declared.reading.Reading.{Reading}
-use Rattle.rule_schemes.specs.declared.reading.Reading.TheVariants.{One, NoReading, Ambiguous, TooLong}
+use Rattle.rule_schemes.specs.declared.reading.Reading.TheVariants.{One, NoReading, Ambiguous}
 use Rattle.rule_schemes.specs.declared.reading.Written as of_written
 use Rattle.rule_schemes.specs.declared.reading.Said as of_said
 use Rattle.rule_schemes.specs.declared.rule.JScheme.{JScheme}

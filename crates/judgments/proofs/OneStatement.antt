@@ -1,35 +1,33 @@
 -- The one statement for which a theorem on derivations stands.
-use Rattle.std.proofs.Common.{◌≡◌, ◌≢◌, ◌⊎◌, ◌+◌, ◌<◌, ◌≤◌, ℕ, zero, suc, List, [], ◌∷◌, ◌++◌, length, map, inl, inr, refl, ap, ◌∙◌, sym, subst, arith, Option, Some, None, slice_get, append-nil}
+use Rattle.std.proofs.Common.{◌≡◌, ◌⊎◌, ◌+◌, ◌<◌, ◌≤◌, ℕ, zero, suc, List, [], ◌∷◌, ◌++◌, length, map, inl, inr, refl, ◌∙◌, sym, subst, arith, Some, slice_get, append-nil}
 use Rattle.std.specs.List.{AllByRecursion, AllZip}
 use Rattle.std.proofs.lemmas.Option.{slice_get_within}
-use Rattle.binding_terms.specs.Numbered.{AnyByRecursion, AllNumbered}
+use Rattle.binding_terms.specs.Numbered.{AnyByRecursion}
 use Rattle.scheme_terms.specs.Forms.{Names, SchemeContext}
-use Rattle.scheme_terms.specs.SchemeScope.{AreDifferentNames, StandsWith, NamesDiffer}
+use Rattle.scheme_terms.specs.SchemeScope.{AreDifferentNames, StandsWith}
 use Rattle.scheme_terms.specs.declared.scheme.MetaDecl.{MetaDecl}
-use Rattle.scheme_terms.specs.declared.scheme.Root.{Root}
 use Rattle.scheme_terms.specs.declared.scheme.Root.TheVariants.{Closed}
 use Rattle.rule_schemes.specs.Reading.{Token}
-use Rattle.rule_schemes.specs.Rules.{JudgmentScheme, Theory, IsJudgmentScheme, StrictInJudgment}
-use Rattle.rule_schemes.specs.Statement.{StatementInput, given, syntax_input, Theorem, OccursInJudgment, OccursInInput, StrictInInput, IsOfInputs, IsOfOutputs, StrictInStatement, InputMayStand, OutputMayStand, IsStatementForm, IsStatementInput, IsStatement, InputWithin, IsWithinEntries, IsTheoremScope, HasNoFault}
-use Rattle.judgments.specs.Bare.{IsBareTheory, IsBareStatement, IsGivenInput}
+use Rattle.rule_schemes.specs.Rules.{JudgmentScheme, Theory, StrictInJudgment}
+use Rattle.rule_schemes.specs.Statement.{StatementInput, given, syntax_input, Theorem, OccursInJudgment, OccursInInput, StrictInInput, IsOfInputs, IsOfOutputs, StrictInStatement, InputMayStand, IsStatementForm, IsStatementInput, InputWithin}
+use Rattle.judgments.specs.Bare.{IsBareTheory, IsGivenInput}
 use Rattle.judgments.specs.Built.{IsBuiltTheorem, bare_text}
 use Rattle.judgments.specs.Collected.{StandsIn, IsAmong, IsCollected, AreCollected}
 use Rattle.judgments.specs.Laws.{AreBareNames}
-use Rattle.judgments.specs.Named.{IsWordOf, IsNamed, AreNamesOf}
+use Rattle.judgments.specs.Named.{IsWordOf, AreNamesOf}
 use Rattle.judgments.specs.Spellings.{IsSpellingOf}
-use Rattle.judgments.specs.Statements.{IsNamedFreely, AreNamedDifferently, IsTheoremOf}
-use Rattle.judgments.specs.Texts.{TheoremText}
-use Rattle.judgments.specs.Written.{WrittenInput, for_derivation, for_term, input_tokens, term_words, IsInputOf, OccursInStatement, IsStatementOf, ReadsOnlyAs, names_over}
-use Rattle.judgments.proofs.BareForms.{word_is_name_of, no_brackets_read, names_from, collected_each, collected_from, form_in_scope}
-use Rattle.judgments.proofs.Collecting.{all_map, any_split}
+use Rattle.judgments.specs.Statements.{IsNamedFreely, AreNamedDifferently}
+use Rattle.judgments.specs.Written.{WrittenInput, for_derivation, for_term, input_tokens, term_words, IsInputOf, IsStatementOf, ReadsOnlyAs, names_over}
+use Rattle.judgments.proofs.BareForms.{word_is_name_of, no_brackets_read, names_from, form_in_scope}
+use Rattle.judgments.proofs.Collecting.{any_split}
 use Rattle.judgments.proofs.GoodRules.{strict_judgment}
 use Rattle.judgments.proofs.Occurring.{numbers_stand}
-use Rattle.judgments.proofs.OneOrder.{one_collection, one_place}
+use Rattle.judgments.proofs.OneOrder.{one_place}
 use Rattle.judgments.proofs.ReadingLemmas.{all_at}
-use Rattle.judgments.proofs.RuleLemmas.{closed_names, bare_names, numbered, no_context_read, none_unread, one_reading}
-use Rattle.judgments.proofs.StatementLemmas.{AreGiven, no_terms, joined_append, any_given, given_any, inputs_read, read_inputs, numbered_all, place_split, place_front, place_back, among_at, each_at, different_front, order_rest, order_tail, order_both}
+use Rattle.judgments.proofs.RuleLemmas.{closed_names, bare_names, numbered, no_context_read}
+use Rattle.judgments.proofs.StatementLemmas.{AreGiven, no_terms, joined_append, any_given, given_any, read_inputs, place_front, place_back, each_at, order_rest, order_tail}
 use Rattle.judgments.proofs.WordsOfForms.{joined, word_joined, joined_word}
-use Rattle.judgments.proofs.Zips.{zip_append, zip_unique, zip_right}
+use Rattle.judgments.proofs.Zips.{zip_append, zip_right}
 
 among_place : (xs : List MetaDecl) (w : List ℕ) → IsAmong w xs → (m : ℕ) × (d : MetaDecl) × (slice_get xs m ≡ Some d) × (d.name ≡ w)
 among_place [] w a = absurd a

@@ -1,5 +1,5 @@
 -- What reads where nothing binds: each of its tokens is accounted for, and it is a scheme of its scope.
-use Rattle.std.proofs.Common.{◌≡◌, ◌≢◌, ◌⊎◌, ℕ, zero, suc, ◌+◌, ◌<◌, List, [], ◌∷◌, ◌++◌, length, map, inl, inr, refl, ap, ◌∙◌, sym, subst, arith, Option, Some, None, slice_get, MatchOption, append-nil}
+use Rattle.std.proofs.Common.{◌≡◌, ◌⊎◌, ℕ, zero, suc, List, [], ◌∷◌, ◌++◌, map, inl, inr, refl, ap, ◌∙◌, sym, subst, Option, Some, None, slice_get, MatchOption}
 use Rattle.std.specs.List.{AllByRecursion}
 use Rattle.binding_terms.specs.Numbered.{AnyByRecursion}
 use Rattle.binding_terms.specs.Signature.{Signature, Place, slots, binders}
@@ -7,12 +7,11 @@ use Rattle.binding_terms.specs.declared.grammar.Cat.{Cat}
 use Rattle.binding_terms.specs.declared.grammar.CatId.{CatId}
 use Rattle.binding_terms.specs.declared.grammar.Prod.{Prod}
 use Rattle.binding_terms.specs.declared.grammar.Item.{Item}
-use Rattle.binding_terms.specs.declared.grammar.Item.TheVariants.{Word, Slot, Binder}
 use Rattle.scheme_terms.specs.Forms.{Names}
-use Rattle.scheme_terms.specs.SchemeTree.{SchemeTree, meta, con, Values, no_values, Parts, OccursIn, OccursInParts}
+use Rattle.scheme_terms.specs.SchemeTree.{SchemeTree, meta, Values, no_values, Parts, OccursIn, OccursInParts}
 use Rattle.scheme_terms.specs.SchemeScope.{IsScheme, AreSchemeParts, AreSchemes, AreValues}
 use Rattle.scheme_terms.specs.declared.scheme.MetaDecl.{MetaDecl}
-use Rattle.rule_schemes.specs.Reading.{Token, word, punctuation, Variable, Means, IsVariableWord, IsSpelling, IsTerminal, slot_variables, ReadsTerm, group, metavariable, variable, production, ReadsBrackets, no_brackets, brackets, ReadsArguments, one_more, last_one, ReadsItems, all_read, terminal, binder, slot, ReadsForm, form_end, form_terminal, form_context, form_slot}
+use Rattle.rule_schemes.specs.Reading.{Token, word, punctuation, Variable, Means, IsSpelling, IsTerminal, slot_variables, ReadsTerm, group, metavariable, variable, production, ReadsBrackets, no_brackets, brackets, ReadsArguments, one_more, last_one, ReadsItems, all_read, terminal, binder, slot, ReadsForm, form_end, form_terminal, form_context, form_slot}
 use Rattle.judgments.specs.Bare.{IsBareItem, IsBareSignature}
 use Rattle.judgments.specs.Spellings.{IsNoSpelling}
 use Rattle.judgments.proofs.Collecting.{all_append, all_map}

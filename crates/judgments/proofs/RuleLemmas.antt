@@ -1,36 +1,31 @@
 -- Rules over bare judgments: the one rule for which a written one stands.
-use Rattle.std.proofs.Common.{◌≡◌, ◌≢◌, ◌⊎◌, ◌+◌, ◌<◌, ◌≤◌, ℕ, zero, suc, List, [], ◌∷◌, ◌++◌, length, map, inl, inr, refl, ap, ◌∙◌, sym, subst, arith, Option, Some, None, slice_get, MatchOption, append-nil}
+use Rattle.std.proofs.Common.{◌≡◌, ◌⊎◌, ◌+◌, ℕ, zero, suc, List, [], ◌∷◌, ◌++◌, length, inl, inr, refl, ap, ◌∙◌, sym, subst, arith, Some, None, slice_get, append-nil}
 use Rattle.std.specs.Prelude.{unwrap_or, option_map}
 use Rattle.std.specs.List.{AllByRecursion, AllZip}
 use Rattle.binding_terms.specs.Numbered.{AnyByRecursion, AllNumbered}
-use Rattle.binding_terms.specs.Signature.{Signature, Place, slots, binders}
-use Rattle.binding_terms.specs.declared.grammar.Prod.{Prod}
+use Rattle.binding_terms.specs.Signature.{Signature}
 use Rattle.scheme_terms.specs.Forms.{Names, SchemeContext, SchemeEntry}
-use Rattle.scheme_terms.specs.SchemeTree.{SchemeTree, meta, known, local, con, Values, no_values, value, Parts, no_parts, part, OccursIn, OccursInParts, StrictIn, StrictInParts, AreDistinctLocals, OccursInValues}
-use Rattle.scheme_terms.specs.SchemeScope.{IsScheme, AreSchemeParts, AreSchemes, AreValues, StandsWith}
 use Rattle.scheme_terms.specs.declared.scheme.MetaDecl.{MetaDecl}
 use Rattle.scheme_terms.specs.declared.scheme.Root.{Root}
 use Rattle.scheme_terms.specs.declared.scheme.Root.TheVariants.{Closed}
-use Rattle.rule_schemes.specs.Plain.{HasPlainNames}
 use Rattle.rule_schemes.specs.Reading.{Token, ReadingScope, ReadsJudgment, without_context, with_context}
-use Rattle.rule_schemes.specs.Refused.{AllStrict}
-use Rattle.rule_schemes.specs.Rules.{JudgmentScheme, Rule, Theory, rule_root, root_of, rule_names, IsJudgmentScheme, IsRootOf, argument_slots, HasForms, StrictInRule, StrictInJudgment, StrictInEntries, IsAssumption}
+use Rattle.rule_schemes.specs.Rules.{JudgmentScheme, Rule, rule_root, root_of}
 use Rattle.rule_schemes.specs.Statement.{OccursInJudgment}
 use Rattle.rule_schemes.specs.declared.rule.Judgment.{Judgment}
 use Rattle.judgments.specs.Bare.{IsBareSignature, IsBareJudgment}
-use Rattle.judgments.specs.Collected.{StandsIn, IsAmong, IsCollected, AreCollected}
-use Rattle.judgments.specs.Laws.{AreBareNames, IsNamedIn}
-use Rattle.judgments.specs.Named.{IsWordOf, IsNamed, AreNamesOf}
-use Rattle.judgments.specs.Spellings.{IsSpellingOf, AreSpelledApart}
+use Rattle.judgments.specs.Collected.{IsCollected, AreCollected}
+use Rattle.judgments.specs.Laws.{AreBareNames}
+use Rattle.judgments.specs.Named.{AreNamesOf}
+use Rattle.judgments.specs.Spellings.{AreSpelledApart}
 use Rattle.judgments.specs.Texts.{RuleText, rule_forms}
 use Rattle.judgments.specs.Theory.{IsBlockRule}
-use Rattle.judgments.specs.Written.{settled, ReadsOnlyAs, names_over, OccursInRule, IsRuleOf}
-use Rattle.judgments.proofs.BareForms.{reads_as, word_is_name_of, no_brackets_read, names_from, collected_each, collected_from, form_in_scope}
+use Rattle.judgments.specs.Written.{ReadsOnlyAs, names_over, OccursInRule}
+use Rattle.judgments.proofs.BareForms.{reads_as, word_is_name_of, no_brackets_read, names_from, collected_each, collected_from}
 use Rattle.judgments.proofs.Collecting.{all_map, any_split}
 use Rattle.judgments.proofs.OneOrder.{one_collection, one_place}
 use Rattle.judgments.proofs.ReadingLemmas.{all_at}
 use Rattle.judgments.proofs.WordsOfForms.{joined, joined_word}
-use Rattle.judgments.proofs.Zips.{zip_append, zip_last, zip_unique, zip_map}
+use Rattle.judgments.proofs.Zips.{zip_append, zip_last, zip_unique}
 
 -- a closed scope of metavariables
 abbrev pub closed_names : List MetaDecl → Names

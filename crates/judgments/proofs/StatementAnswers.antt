@@ -1,9 +1,7 @@
 -- What the functions over the forms of a theorem have to say, over plain variables.
-use Rattle.std.proofs.Common.{◌≡◌, ◌+◌, ◌<◌, ℕ, List, [], ◌∷◌, ◌++◌, length, map, take, drop, get_or, refl, ap, ◌∙◌, sym, subst, arith, append-nil, append_assoc}
+use Rattle.std.proofs.Common.{◌≡◌, ℕ, List, [], ◌∷◌, ◌++◌, map, refl, ap, ◌∙◌, sym, subst}
 use Rattle.std.specs.Prelude.{flat_map}
 use Rattle.std.specs.List.{AllByRecursion, AllZip}
-use Rattle.std.proofs.lemmas.List.{take_more, drop_more, take-append-drop}
-use Rattle.outline_reader.specs.Plain.{PlainPortion}
 use Rattle.outline_reader.specs.declared.parts.NamedForm.{NamedForm}
 use Rattle.proof_lexer.specs.View.{kind_and_text}
 use Rattle.scheme_terms.specs.declared.scheme.MetaDecl.{MetaDecl}

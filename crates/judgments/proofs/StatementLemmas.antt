@@ -1,36 +1,19 @@
 -- Statements on derivations over bare theories: the one statement for which a theorem stands.
-use Rattle.std.proofs.Common.{◌≡◌, ◌≢◌, ◌⊎◌, ◌+◌, ◌<◌, ◌≤◌, ℕ, zero, suc, List, [], ◌∷◌, ◌++◌, length, map, inl, inr, refl, ap, ◌∙◌, sym, subst, arith, Option, Some, None, slice_get, MatchOption, append-nil, append_assoc}
-use Rattle.std.specs.Prelude.{flat_map}
+use Rattle.std.proofs.Common.{◌≡◌, ◌≢◌, ◌⊎◌, ◌+◌, ℕ, zero, suc, List, [], ◌∷◌, ◌++◌, length, map, inl, inr, refl, ap, ◌∙◌, sym, subst, arith, Some, None, slice_get, append_assoc}
 use Rattle.std.specs.List.{AllByRecursion, AllZip}
 use Rattle.binding_terms.specs.Numbered.{AnyByRecursion, AllNumbered}
 use Rattle.binding_terms.specs.Signature.{Signature}
-use Rattle.scheme_terms.specs.Forms.{Names, SchemeContext, SchemeEntry, KnownVariable}
-use Rattle.scheme_terms.specs.SchemeScope.{AreDifferentNames, StandsWith, NamesDiffer}
+use Rattle.scheme_terms.specs.Forms.{Names}
+use Rattle.scheme_terms.specs.SchemeScope.{AreDifferentNames}
 use Rattle.scheme_terms.specs.declared.scheme.MetaDecl.{MetaDecl}
-use Rattle.scheme_terms.specs.declared.scheme.Root.{Root}
-use Rattle.scheme_terms.specs.declared.scheme.Root.TheVariants.{Closed}
 use Rattle.rule_schemes.specs.NewNames.{AreInOrder, StandsBefore}
-use Rattle.rule_schemes.specs.Reading.{Token, word}
-use Rattle.rule_schemes.specs.Rules.{JudgmentScheme, Theory, IsJudgmentScheme, StrictInJudgment, MayStand}
-use Rattle.rule_schemes.specs.Statement.{StatementInput, given, syntax_input, Theorem, OccursInJudgment, OccursInInput, StrictInInput, IsOfInputs, IsOfOutputs, StrictInStatement, InputMayStand, OutputMayStand, IsStatementForm, IsStatementInput, IsStatement, InputWithin, IsWithinEntries, IsTheoremScope, HasNoFault}
-use Rattle.judgments.specs.Bare.{IsBareTheory, IsBareStatement, IsGivenInput}
-use Rattle.judgments.specs.Built.{IsBuiltTheorem, bare_text}
-use Rattle.judgments.specs.Collected.{StandsIn, IsAmong, IsCollected, AreCollected}
-use Rattle.judgments.specs.Laws.{AreBareNames}
-use Rattle.judgments.specs.Named.{IsWordOf, IsNamed, AreNamesOf}
-use Rattle.judgments.specs.Statements.{IsAssumedRoot, IsNamedFreely, AreNamedDifferently, IsTheoremOf}
-use Rattle.judgments.specs.Texts.{TheoremText}
+use Rattle.rule_schemes.specs.Reading.{Token}
+use Rattle.rule_schemes.specs.Rules.{JudgmentScheme}
+use Rattle.rule_schemes.specs.Statement.{StatementInput, given, syntax_input, OccursInJudgment, OccursInInput}
+use Rattle.judgments.specs.Collected.{StandsIn, IsAmong}
 use Rattle.judgments.specs.Views.{IsForDerivation}
-use Rattle.judgments.specs.Written.{WrittenInput, for_derivation, for_term, input_tokens, term_words, IsInputOf, OccursInStatement, IsStatementOf, ReadsOnlyAs, names_over, IsTarget}
-use Rattle.judgments.proofs.BareForms.{word_is_name_of, no_brackets_read, names_from, collected_each, collected_from, form_in_scope}
-use Rattle.judgments.proofs.Collecting.{all_map, all_append, any_front, any_back, any_split}
-use Rattle.judgments.proofs.GoodRules.{strict_judgment}
-use Rattle.judgments.proofs.Occurring.{numbers_stand}
-use Rattle.judgments.proofs.OneOrder.{one_collection, one_place}
-use Rattle.judgments.proofs.ReadingLemmas.{all_at}
-use Rattle.judgments.proofs.RuleLemmas.{closed_names, bare_names, numbered, no_context_read, none_unread, one_reading}
-use Rattle.judgments.proofs.WordsOfForms.{joined, word_joined, joined_word}
-use Rattle.judgments.proofs.Zips.{zip_append, zip_split, zip_unique, zip_right, map_append}
+use Rattle.judgments.specs.Written.{WrittenInput, for_derivation, for_term, input_tokens, term_words, IsInputOf, ReadsOnlyAs}
+use Rattle.judgments.proofs.WordsOfForms.{joined}
 
 -- inputs that are derivations
 abbrev pub AreGiven : List WrittenInput → Type 0

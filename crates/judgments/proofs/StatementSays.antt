@@ -1,22 +1,21 @@
 -- What a statement for which a theorem stands says of its metavariables and forms.
-use Rattle.std.proofs.Common.{◌≡◌, ◌≢◌, ◌⊎◌, ◌+◌, ◌<◌, ◌≤◌, ℕ, zero, suc, List, [], ◌∷◌, ◌++◌, length, map, inl, inr, refl, ap, ◌∙◌, sym, subst, arith, Option, Some, None, slice_get, append-nil}
+use Rattle.std.proofs.Common.{◌≡◌, ◌⊎◌, ◌+◌, ℕ, List, [], ◌++◌, length, map, inl, inr, refl, ap, ◌∙◌, sym, subst, arith, Some, slice_get, append-nil}
 use Rattle.std.specs.List.{AllByRecursion, AllZip}
-use Rattle.binding_terms.specs.Numbered.{AnyByRecursion, AllNumbered}
+use Rattle.binding_terms.specs.Numbered.{AnyByRecursion}
 use Rattle.scheme_terms.specs.Forms.{Names}
 use Rattle.scheme_terms.specs.declared.scheme.MetaDecl.{MetaDecl}
-use Rattle.scheme_terms.specs.declared.scheme.Root.TheVariants.{Closed}
 use Rattle.rule_schemes.specs.NewNames.{AreInOrder}
-use Rattle.rule_schemes.specs.Reading.{Token, word}
+use Rattle.rule_schemes.specs.Reading.{Token}
 use Rattle.rule_schemes.specs.Rules.{JudgmentScheme, Theory}
-use Rattle.rule_schemes.specs.Statement.{StatementInput, given, Theorem, OccursInJudgment, OccursInInput, IsOfInputs, IsOfOutputs}
-use Rattle.judgments.specs.Bare.{IsBareTheory, IsBareStatement}
+use Rattle.rule_schemes.specs.Statement.{given, Theorem, OccursInJudgment, OccursInInput, IsOfInputs, IsOfOutputs}
+use Rattle.judgments.specs.Bare.{IsBareTheory}
 use Rattle.judgments.specs.Built.{IsBuiltTheorem}
 use Rattle.judgments.specs.Collected.{StandsIn, IsAmong, IsCollected, AreCollected}
 use Rattle.judgments.specs.Laws.{AreBareNames}
-use Rattle.judgments.specs.Named.{IsWordOf, IsNamed, AreNamesOf}
+use Rattle.judgments.specs.Named.{IsWordOf, AreNamesOf}
 use Rattle.judgments.specs.Spellings.{IsSpellingOf}
 use Rattle.judgments.specs.Texts.{TheoremText}
-use Rattle.judgments.specs.Written.{input_tokens, term_words, OccursInStatement, IsStatementOf, ReadsOnlyAs, names_over}
+use Rattle.judgments.specs.Written.{input_tokens, OccursInStatement, IsStatementOf, ReadsOnlyAs, names_over}
 use Rattle.judgments.proofs.BareForms.{word_is_name_of, collected_each, collected_from}
 use Rattle.judgments.proofs.Collecting.{any_split}
 use Rattle.judgments.proofs.Occurring.{numbers_stand}

@@ -5,7 +5,7 @@ use Rattle.binding_terms.specs.Signature.{Signature}
 use Rattle.sy_base.specs.Tokens.{PlainToken}
 use Rattle.outline_reader.specs.Plain.{PlainPortion}
 use Rattle.scheme_terms.specs.declared.scheme.Root.{Root}
-use Rattle.scheme_terms.specs.declared.scheme.Root.TheVariants.{Closed, Empty, Whole}
+use Rattle.scheme_terms.specs.declared.scheme.Root.TheVariants.{Closed, Whole}
 use Rattle.rule_schemes.specs.Reading.{IsNameOf, IsVariableWord}
 use Rattle.rule_schemes.specs.Rules.{Theory}
 use Rattle.rule_schemes.specs.Statement.{Theorem, IsStatement, IsTheoremScope, IsWithinEntries, HasNoFault}

@@ -10,7 +10,7 @@ use Rattle.rule_schemes.specs.Rules.{JudgmentScheme, Rule}
 use Rattle.rule_schemes.specs.Statement.{StatementInput, given, syntax_input, Theorem, OccursInJudgment, OccursInInput, IsOfInputs, IsOfOutputs}
 use Rattle.rule_schemes.specs.Reading.{Token, word, not_fresh, ReadingScope}
 use Rattle.rule_schemes.specs.NewNames.{AreInOrder}
-use Rattle.rule_schemes.specs.Said.{Want, want_judgment, Written, a_judgment, Said, HasOneReading}
+use Rattle.rule_schemes.specs.Said.{want_judgment, a_judgment, HasOneReading}
 use Rattle.rule_schemes.specs.declared.rule.Judgment.{Judgment}
 use Rattle.judgments.specs.Named.{AreNamesOf}
 

@@ -1,4 +1,4 @@
-use Rattle.std.proofs.Common.{◌≡◌, ap}
+use Rattle.std.proofs.Common.{ap}
 use Rattle.judgments.specs.Written.{for_derivation}
 use Rattle.judgments.proofs.SystemLemmas.{form_read}
 use Rattle.judgments.proofs.inputs.given_in.Goals as goal

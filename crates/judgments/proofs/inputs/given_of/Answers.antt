@@ -1,4 +1,3 @@
-use Rattle.std.proofs.Common.{◌≡◌}
 use Rattle.judgments.specs.Views.{input_text, IsForDerivation}
 use Rattle.judgments.proofs.Zips.{all_pick}
 use Rattle.judgments.proofs.inputs.given_of.Goals as goal

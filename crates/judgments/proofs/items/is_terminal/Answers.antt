@@ -1,4 +1,4 @@
-use Rattle.std.proofs.Common.{◌≡◌, ◌∙◌, sym, ap}
+use Rattle.std.proofs.Common.{◌∙◌, sym, ap}
 use Rattle.proof_lexer.specs.View.{token_view, kind_number}
 use Rattle.outline_reader.specs.Plain.{outlined}
 use Rattle.judgments.proofs.ItemLemmas.{word_terminal}

@@ -1,4 +1,3 @@
-use Rattle.std.proofs.Common.{◌≡◌, ◌↔◌, IsTrue}
 use Rattle.judgments.proofs.items.lists_text.Goals as goal
 
 pub returns-in-Terminals : goal.returns-in-Terminals

@@ -1,4 +1,4 @@
-use Rattle.std.proofs.Common.{◌≡◌, ◌≤◌, length, map, arith}
+use Rattle.std.proofs.Common.{◌≤◌, length, map, arith}
 use Rattle.std.proofs.lemmas.List.{take_all}
 use Rattle.proof_lexer.specs.View.{kind_and_text}
 use Rattle.judgments.proofs.Collecting.{next_form, longer_again}

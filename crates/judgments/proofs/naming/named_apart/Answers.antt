@@ -1,4 +1,4 @@
-use Rattle.std.proofs.Common.{◌≡◌, ◌↔◌, IsTrue, false, true, sym, ◌∙◌}
+use Rattle.std.proofs.Common.{◌≡◌, false, true, sym, ◌∙◌}
 use Rattle.outline_reader.specs.Views.{portion_view}
 use Rattle.outline_reader.specs.Plain.{plain_portion}
 use Rattle.judgments.specs.Views.{declares}

@@ -1,4 +1,3 @@
-use Rattle.std.proofs.Common.{◌≡◌, map}
 use Rattle.notation_parser.specs.View.{reading_scope}
 use Rattle.judgments.proofs.OneReading.{one_answer, no_answer, two_answers}
 use Rattle.judgments.proofs.readings.read_form.Goals as goal

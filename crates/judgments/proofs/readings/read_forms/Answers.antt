@@ -1,5 +1,4 @@
-use Rattle.std.proofs.Common.{◌≡◌, map, ◌++◌, [], ◌∷◌, sym}
-use Rattle.std.specs.List.{AllZip}
+use Rattle.std.proofs.Common.{map, [], ◌∷◌}
 use Rattle.scheme_terms.specs.View.{names}
 use Rattle.proof_lexer.specs.View.{kind_and_text}
 use Rattle.rule_schemes.specs.View.{judgment_scheme}

@@ -1,4 +1,4 @@
-use Rattle.std.proofs.Common.{◌≡◌, refl}
+use Rattle.std.proofs.Common.{refl}
 use Rattle.rule_schemes.specs.View.{theory, rule as plain_rule}
 use Rattle.judgments.proofs.GoodRules.{want_of_memory}
 use Rattle.judgments.proofs.rules.add.Goals as goal

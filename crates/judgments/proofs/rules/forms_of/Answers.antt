@@ -1,4 +1,3 @@
-use Rattle.std.proofs.Common.{◌≡◌, refl}
 use Rattle.judgments.proofs.rules.forms_of.Goals as goal
 
 pub returns-in-None-2 : goal.returns-in-None-2

@@ -1,6 +1,4 @@
-use Rattle.std.proofs.Common.{◌≡◌, [], sym, subst}
-use Rattle.scheme_terms.specs.declared.scheme.MetaDecl.{MetaDecl}
-use Rattle.judgments.specs.Collected.{AreCollected}
+use Rattle.std.proofs.Common.{[]}
 use Rattle.judgments.proofs.Collecting.{no_tokens}
 use Rattle.judgments.proofs.rules.names_of.Goals as goal
 

@@ -1,12 +1,8 @@
 use Rattle.std.proofs.Common.{◌≡◌, List, map, ap, sym, ◌∙◌, subst, refl, false}
 use Rattle.scheme_terms.specs.Forms.{Names}
-use Rattle.scheme_terms.specs.View.{names}
-use Rattle.scheme_terms.specs.declared.scheme.MetaDecl.{MetaDecl}
 use Rattle.proof_lexer.specs.View.{kind_and_text}
-use Rattle.rule_schemes.specs.Reading.{Token}
 use Rattle.rule_schemes.specs.View.{theory, judgment_scheme}
 use Rattle.notation_parser.specs.View.{reading_scope}
-use Rattle.judgments.specs.Collected.{AreCollected}
 use Rattle.judgments.proofs.RuleAnswers.{plain_scope, joined_forms, no_rule, other_block, a_rule}
 use Rattle.judgments.proofs.rules.rule_of.Goals as goal
 

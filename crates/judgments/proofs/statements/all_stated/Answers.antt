@@ -1,5 +1,4 @@
-use Rattle.std.proofs.Common.{◌≡◌, ◌<◌, ◌∙◌, ap, subst, sym, length, map, ◌++◌}
-use Rattle.std.specs.List.{AllZip}
+use Rattle.std.proofs.Common.{map}
 use Rattle.outline_reader.specs.Views.{portion_view}
 use Rattle.outline_reader.specs.Plain.{plain_portion}
 use Rattle.rule_schemes.specs.View.{theory, statement as plain_statement}

@@ -1,4 +1,4 @@
-use Rattle.std.proofs.Common.{◌≡◌, [], subst, ◌++◌, map}
+use Rattle.std.proofs.Common.{[], subst, ◌++◌, map}
 use Rattle.std.specs.Prelude.{flat_map}
 use Rattle.proof_lexer.specs.View.{kind_and_text}
 use Rattle.judgments.specs.Collected.{AreCollected}

@@ -1,8 +1,6 @@
-use Rattle.std.proofs.Common.{◌≡◌, map, ◌++◌, [], ◌∷◌, sym, ap, ◌∙◌, List}
-use Rattle.std.specs.List.{AllZip}
+use Rattle.std.proofs.Common.{map, ◌++◌, [], ◌∷◌, sym, ap, ◌∙◌, List}
 use Rattle.scheme_terms.specs.View.{names}
 use Rattle.proof_lexer.specs.View.{kind_and_text}
-use Rattle.rule_schemes.specs.Rules.{JudgmentScheme}
 use Rattle.rule_schemes.specs.Statement.{StatementInput, given}
 use Rattle.rule_schemes.specs.View.{judgment_scheme, statement_input}
 use Rattle.rule_schemes.specs.declared.rule.Input.TheVariants.{Given}

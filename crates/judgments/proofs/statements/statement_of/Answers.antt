@@ -1,4 +1,4 @@
-use Rattle.std.proofs.Common.{◌≡◌, List, map, ap, sym, ◌∙◌, subst}
+use Rattle.std.proofs.Common.{map, sym, subst}
 use Rattle.proof_lexer.specs.View.{kind_and_text}
 use Rattle.rule_schemes.specs.View.{theory, judgment_scheme}
 use Rattle.notation_parser.specs.View.{reading_scope}

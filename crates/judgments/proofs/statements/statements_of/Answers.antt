@@ -1,4 +1,4 @@
-use Rattle.std.proofs.Common.{◌≡◌, map}
+use Rattle.std.proofs.Common.{map}
 use Rattle.outline_reader.specs.Plain.{outlined}
 use Rattle.rule_schemes.specs.View.{theory, statement as plain_statement}
 use Rattle.judgments.proofs.FileStatements.{if_found, are_statements, no_statements}

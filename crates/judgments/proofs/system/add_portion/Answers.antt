@@ -1,7 +1,6 @@
-use Rattle.std.proofs.Common.{◌≡◌, ◌∙◌, ap, sym, map, ◌++◌, ◌∷◌, []}
+use Rattle.std.proofs.Common.{◌≡◌, ◌∙◌, ap, map, ◌++◌, ◌∷◌, []}
 use Rattle.rule_schemes.specs.Rules.{Theory}
 use Rattle.rule_schemes.specs.View.{theory, rule as plain_rule}
-use Rattle.rule_schemes.specs.Parts.{Parts}
 use Rattle.judgments.proofs.GoodRules.{good_rule}
 use Rattle.judgments.proofs.SystemLemmas.{same_text, rule_added, rule_none}
 use Rattle.judgments.proofs.Zips.{map_append}

@@ -1,4 +1,3 @@
-use Rattle.std.proofs.Common.{◌≡◌, ◌<◌, length}
 use Rattle.outline_reader.specs.Views.{portion_view}
 use Rattle.outline_reader.specs.Plain.{plain_portion}
 use Rattle.rule_schemes.specs.View.{theory}

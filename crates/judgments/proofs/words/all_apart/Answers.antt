@@ -1,5 +1,4 @@
-use Rattle.std.proofs.Common.{◌≡◌, ◌↔◌, IsTrue, false, true, drop, sym, ◌∙◌}
-use Rattle.judgments.specs.Spellings.{NamesApart}
+use Rattle.std.proofs.Common.{◌≡◌, false, true, sym, ◌∙◌}
 use Rattle.judgments.proofs.Spelling.{apart_step}
 use Rattle.judgments.proofs.words.all_apart.Goals as goal
 

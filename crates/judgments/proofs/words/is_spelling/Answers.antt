@@ -1,7 +1,5 @@
-use Rattle.std.proofs.Common.{◌≡◌, ◌↔◌, IsTrue, ℕ, false, true, List, length, take, drop, sym, ap, ◌∙◌, subst}
-use Rattle.std.specs.List.{AllByRecursion}
+use Rattle.std.proofs.Common.{◌≡◌, false, true, sym, ◌∙◌}
 use Rattle.std.proofs.lemmas.List.{take_rest}
-use Rattle.rule_schemes.specs.Reading.{IsEnding, IsSpelling}
 use Rattle.judgments.proofs.Spelling.{spelling_front, spelling_rest, spelling_made}
 use Rattle.judgments.proofs.words.is_spelling.Goals as goal
 

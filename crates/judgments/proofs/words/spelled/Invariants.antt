@@ -1,4 +1,4 @@
-use Rattle.std.proofs.Common.{ℕ, ◌<◌, take}
+use Rattle.std.proofs.Common.{take}
 use Rattle.judgments.specs.Spellings.{IsNoSpelling}
 use Rattle.judgments.proofs.words.spelled.Given as goal
 

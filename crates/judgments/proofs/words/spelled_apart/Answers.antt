@@ -1,5 +1,3 @@
-use Rattle.std.proofs.Common.{◌≡◌, ◌↔◌, IsTrue, ◌∙◌, subst}
-use Rattle.judgments.specs.Spellings.{NamesApart, AreSpelledApart}
 use Rattle.judgments.proofs.Spelling.{apart_cats}
 use Rattle.judgments.proofs.words.spelled_apart.Goals as goal
 
