@@ -151,13 +151,15 @@ module _ (sig : Signature) (bare : IsBareSignature sig) (forms : List (List Toke
   named : (metas : List MetaDecl) → AllByRecursion HasNoBracket forms → AllByRecursion (IsCollected sig.cats (joined forms)) metas → AllByRecursion (IsNamed sig forms) metas
   named [] none h = tt
   named (m ∷ metas) none h =
-      let here = joined_word forms m.name (h.0).written in
-      (record {
-        written = here;
-        cat = plain_spelling sig.cats m.cat.0 m.name bare.no_context (h.0).cat;
-        params = subst (λ (ps : List CatId). Rattle.rule_schemes.specs.NewNames.HasParameters sig m.name forms (map (λ p. p.0) ps)) (sym (h.0).params) (has_no_parameters sig m.name forms none here);
-        few = (let none : length m.params ≡ 0 = ap length (h.0).params in omega arith);
-      }, named metas none h.1)
+      let here = joined_word forms m.name (h.0).written in (
+        record {
+          written = here;
+          cat = plain_spelling sig.cats m.cat.0 m.name bare.no_context (h.0).cat;
+          params = subst (λ (ps : List CatId). Rattle.rule_schemes.specs.NewNames.HasParameters sig m.name forms (map (λ p. p.0) ps)) (sym (h.0).params) (has_no_parameters sig m.name forms none here);
+          few = (let none : length m.params ≡ 0 = ap length (h.0).params in omega arith);
+        },
+        named metas none h.1,
+      )
 
   -- what is collected are the names of the forms, where no bracket opens
   pub names_from : (metas : List MetaDecl) → AllByRecursion HasNoBracket forms → AreCollected sig.cats (joined forms) metas → AreNamesOf sig forms metas

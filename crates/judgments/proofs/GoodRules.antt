@@ -128,8 +128,11 @@ module _ (th : Theory) (bare : IsBareTheory th) (text : RuleText) (r : Rule) (h 
   ordinary a = subst (λ (c : SchemeContext). IsOneEntry c.root c.entries) closed_conclusion a
 
   strict_name : (m : ℕ) → AnyByRecursion (OccursInJudgment m) r.premises ⊎ AnyByRecursion (OccursInJudgment m) (r.conclusion ∷ []) → StrictInRule r m
-  strict_name m (inl a) = inr (ordinary, inl (any_map (OccursInJudgment m) (StrictInJudgment m) r.premises
-      (zip_right (ReadsOnlyAs th.sig th.judgments (closed_names r.metas)) (λ (j : JudgmentScheme). OccursInJudgment m j → StrictInJudgment m j) (λ form j k. strict_in form j k m) text.premises r.premises says.1) a))
+  strict_name m (inl a) = inr (
+    ordinary,
+    inl (any_map (OccursInJudgment m) (StrictInJudgment m) r.premises
+        (zip_right (ReadsOnlyAs th.sig th.judgments (closed_names r.metas)) (λ (j : JudgmentScheme). OccursInJudgment m j → StrictInJudgment m j) (λ form j k. strict_in form j k m) text.premises r.premises says.1) a),
+  )
   strict_name m (inr (inl a)) = inr (ordinary, inr (strict_in text.conclusion r.conclusion says.2 m a))
   strict_name m (inr (inr never)) = absurd never
 

@@ -29,9 +29,9 @@ fn judgment_of(
 ) -> Result<Option<Judgment>, NoMemory>
     ensures { IfOk result (λ found. MatchOption found
         ((j : Judgment) → IsBuiltJudgment sig.now (outlined outline.now)
-            (record { name = name.now.text.now; form = plain_form form.now; assumes = None }) j → ⊥)
+        (record { name = name.now.text.now; form = plain_form form.now; assumes = None }) j → ⊥)
         (λ j. IsBuiltJudgment sig.now (outlined outline.now)
-            (record { name = name.now.text.now; form = plain_form form.now; assumes = None }) j)) }
+        (record { name = name.now.text.now; form = plain_form form.now; assumes = None }) j)) }
 {
     if form.len() > LONGEST {
         return Ok(None);

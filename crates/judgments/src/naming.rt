@@ -77,7 +77,7 @@ fn are_alike(what: Declares, one: &Portion<'_>, other: &Portion<'_>) -> bool
 fn is_new(what: Declares, one: &Portion<'_>, others: &[Portion<'_>]) -> bool
     ensures { IsTrue result
         ↔ AllByRecursion (λ q. AreNamedAlike (declares what) (plain_portion (portion_view one.now)) q → ⊥)
-            (map (λ portion. plain_portion (portion_view portion)) others.now) }
+        (map (λ portion. plain_portion (portion_view portion)) others.now) }
 {
     for other in others {
         if are_alike(what, one, other) {

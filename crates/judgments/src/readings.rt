@@ -96,9 +96,9 @@ pub fn read_forms(
     requires { IsPlain sig.now judgments.now.items (reading_scope scope.now) want_judgment }
     ensures { IfOk result (λ found. MatchOption found
         ((js : List JudgmentScheme) → AllZip (ReadsOnlyAs sig.now judgments.now.items (names scope.now.scope))
-            (map (λ form. map kind_and_text form.now) forms.now) js → ⊥)
+        (map (λ form. map kind_and_text form.now) forms.now) js → ⊥)
         (λ js. AllZip (ReadsOnlyAs sig.now judgments.now.items (names scope.now.scope))
-            (map (λ form. map kind_and_text form.now) forms.now) (map judgment_scheme js))) }
+        (map (λ form. map kind_and_text form.now) forms.now) (map judgment_scheme js))) }
 {
     let mut all = Items::new(alloc);
     for form in forms {

@@ -59,10 +59,10 @@ fn forms_of(
     requires { IsPlain sys.now.sig sys.now.judgments (reading_scope scope.now) want_judgment }
     ensures { IfOk result (λ found. MatchOption found
         ((js : List JudgmentScheme) (j : JudgmentScheme)
-            → AllZip (ReadsOnlyAs sys.now.sig sys.now.judgments (names scope.now.scope)) (map (λ form. map kind_and_text form.now) premises.now) js
-            → ReadsOnlyAs sys.now.sig sys.now.judgments (names scope.now.scope) (map kind_and_text conclusion.now) j → ⊥)
+        → AllZip (ReadsOnlyAs sys.now.sig sys.now.judgments (names scope.now.scope)) (map (λ form. map kind_and_text form.now) premises.now) js
+        → ReadsOnlyAs sys.now.sig sys.now.judgments (names scope.now.scope) (map kind_and_text conclusion.now) j → ⊥)
         (λ forms. AllZip (ReadsOnlyAs sys.now.sig sys.now.judgments (names scope.now.scope)) (map (λ form. map kind_and_text form.now) premises.now) (map judgment_scheme forms.premises)
-            × ReadsOnlyAs sys.now.sig sys.now.judgments (names scope.now.scope) (map kind_and_text conclusion.now) (judgment_scheme forms.conclusion))) }
+        × ReadsOnlyAs sys.now.sig sys.now.judgments (names scope.now.scope) (map kind_and_text conclusion.now) (judgment_scheme forms.conclusion))) }
 {
     match read_forms(alloc, sys.sig(), sys.judgments(), scope, premises)? {
         Some(premises) => match read_form(alloc, sys.sig(), sys.judgments(), scope, conclusion)? {
@@ -84,7 +84,11 @@ fn made(
     forms: Forms,
 ) -> Result<RuleScheme, NoMemory>
     ensures { IfOk result (λ r. r ≡ record {
-        name = name.now.text.now; metas = scope.scope.metas; premises = forms.premises; conclusion = forms.conclusion }) }
+      name = name.now.text.now;
+      metas = scope.scope.metas;
+      premises = forms.premises;
+      conclusion = forms.conclusion;
+    }) }
 {
     let name = text_of(alloc, name.text.as_bytes())?;
     let Forms {
@@ -117,10 +121,18 @@ pub fn rule_of(
 ) -> Result<Option<RuleScheme>, NoMemory>
     requires { IsBareTheory (theory sys.now) }
     ensures { IfOk result (λ found. MatchOption found
-        ((r : Rule) → IsBlockRule sys.now.sig sys.now.judgments (record { block = block; name = name.now.text.now;
-            premises = map (λ form. map kind_and_text form.now) premises.now; conclusion = map kind_and_text conclusion.now }) r → ⊥)
-        (λ r. IsBlockRule sys.now.sig sys.now.judgments (record { block = block; name = name.now.text.now;
-            premises = map (λ form. map kind_and_text form.now) premises.now; conclusion = map kind_and_text conclusion.now }) (plain_rule r))) }
+        ((r : Rule) → IsBlockRule sys.now.sig sys.now.judgments (record {
+          block = block;
+          name = name.now.text.now;
+          premises = map (λ form. map kind_and_text form.now) premises.now;
+          conclusion = map kind_and_text conclusion.now;
+        }) r → ⊥)
+        (λ r. IsBlockRule sys.now.sig sys.now.judgments (record {
+          block = block;
+          name = name.now.text.now;
+          premises = map (λ form. map kind_and_text form.now) premises.now;
+          conclusion = map kind_and_text conclusion.now;
+        }) (plain_rule r))) }
 {
     let metas = names_of(alloc, sys.sig(), premises, conclusion)?;
     let scope = scope_of(alloc, metas);

@@ -42,7 +42,7 @@ fn names_of(
     ensures { IfOk result (λ metas. (first : List MetaDecl) × (further : List MetaDecl) × (metas ≡ first ++ further)
         × AreCollected sig.now.cats (flat_map (λ named. map kind_and_text named.form.now) inputs.now) first
         × AreCollected sig.now.cats (flat_map (λ named. map kind_and_text named.form.now) inputs.now
-            ++ flat_map (λ form. map kind_and_text form.now) outputs.now) (first ++ further)) }
+        ++ flat_map (λ form. map kind_and_text form.now) outputs.now) (first ++ further)) }
 {
     let mut metas = Items::new(alloc);
     take_given_names(alloc, sig, &mut metas, inputs)?;
@@ -60,9 +60,9 @@ fn read_inputs(
     requires { IsPlain sys.now.sig sys.now.judgments (reading_scope scope.now) want_judgment }
     ensures { IfOk result (λ found. MatchOption found
         ((js : List JudgmentScheme) → AllZip (ReadsOnlyAs sys.now.sig sys.now.judgments (names scope.now.scope))
-            (map (λ named. map kind_and_text named.form.now) inputs.now) js → ⊥)
+        (map (λ named. map kind_and_text named.form.now) inputs.now) js → ⊥)
         (λ all. (js : List JudgmentScheme) × (map statement_input all ≡ map given js)
-            × AllZip (ReadsOnlyAs sys.now.sig sys.now.judgments (names scope.now.scope)) (map (λ named. map kind_and_text named.form.now) inputs.now) js)) }
+        × AllZip (ReadsOnlyAs sys.now.sig sys.now.judgments (names scope.now.scope)) (map (λ named. map kind_and_text named.form.now) inputs.now) js)) }
 {
     let mut all = Items::new(alloc);
     for named in inputs {
@@ -92,11 +92,11 @@ fn parts_of(
     requires { IsPlain sys.now.sig sys.now.judgments (reading_scope scope.now) want_judgment }
     ensures { IfOk result (λ found. MatchOption found
         ((js : List JudgmentScheme) (zs : List JudgmentScheme)
-            → AllZip (ReadsOnlyAs sys.now.sig sys.now.judgments (names scope.now.scope)) (map (λ named. map kind_and_text named.form.now) inputs.now) js
-            → AllZip (ReadsOnlyAs sys.now.sig sys.now.judgments (names scope.now.scope)) (map (λ form. map kind_and_text form.now) outputs.now) zs → ⊥)
+        → AllZip (ReadsOnlyAs sys.now.sig sys.now.judgments (names scope.now.scope)) (map (λ named. map kind_and_text named.form.now) inputs.now) js
+        → AllZip (ReadsOnlyAs sys.now.sig sys.now.judgments (names scope.now.scope)) (map (λ form. map kind_and_text form.now) outputs.now) zs → ⊥)
         (λ parts. (js : List JudgmentScheme) × (map statement_input parts.inputs ≡ map given js)
-            × AllZip (ReadsOnlyAs sys.now.sig sys.now.judgments (names scope.now.scope)) (map (λ named. map kind_and_text named.form.now) inputs.now) js
-            × AllZip (ReadsOnlyAs sys.now.sig sys.now.judgments (names scope.now.scope)) (map (λ form. map kind_and_text form.now) outputs.now) (map judgment_scheme parts.outputs))) }
+        × AllZip (ReadsOnlyAs sys.now.sig sys.now.judgments (names scope.now.scope)) (map (λ named. map kind_and_text named.form.now) inputs.now) js
+        × AllZip (ReadsOnlyAs sys.now.sig sys.now.judgments (names scope.now.scope)) (map (λ form. map kind_and_text form.now) outputs.now) (map judgment_scheme parts.outputs))) }
 {
     match read_inputs(alloc, sys, scope, inputs)? {
         Some(inputs) => match read_forms(alloc, sys.sig(), sys.judgments(), scope, outputs)? {
@@ -128,8 +128,13 @@ fn made(
     parts: Parts,
 ) -> Result<Statement, NoMemory>
     ensures { IfOk result (λ st. plain_statement st ≡ record {
-        name = name.now.text.now; scope = names scope.scope; inputs = map statement_input parts.inputs;
-        outputs = map judgment_scheme parts.outputs; targets = []; group = group }) }
+      name = name.now.text.now;
+      scope = names scope.scope;
+      inputs = map statement_input parts.inputs;
+      outputs = map judgment_scheme parts.outputs;
+      targets = [];
+      group = group;
+    }) }
 {
     let group = number(group)?;
     let name = text_of(alloc, name.text.as_bytes())?;
@@ -258,7 +263,14 @@ fn stated(
                 return Ok(None);
             }
             let group = group_of(groups, *joined);
-            match theorem_of(alloc, sys, group, name, inputs.as_slice(), outputs.as_slice())? {
+            match theorem_of(
+                alloc,
+                sys,
+                group,
+                name,
+                inputs.as_slice(),
+                outputs.as_slice(),
+            )? {
                 Some(statement) => Ok(Some(alone(alloc, statement)?)),
                 None => Ok(None),
             }
@@ -308,9 +320,9 @@ pub fn statements_of(
     ensures { IfOk result (λ found. MatchOption found
         ((sts : List Theorem) → AreStatementsOf (outlined outline.now) (theory sys.now) sts → AllByRecursion IsBareStatement sts → ⊥)
         (λ sts. AreStatementsOf (outlined outline.now) (theory sys.now) (map plain_statement sts.items)
-            × AllByRecursion IsBareStatement (map plain_statement sts.items)
-            × ((others : List Theorem) → AreStatementsOf (outlined outline.now) (theory sys.now) others
-                → AllByRecursion IsBareStatement others → others ≡ map plain_statement sts.items))) }
+        × AllByRecursion IsBareStatement (map plain_statement sts.items)
+        × ((others : List Theorem) → AreStatementsOf (outlined outline.now) (theory sys.now) others
+        → AllByRecursion IsBareStatement others → others ≡ map plain_statement sts.items))) }
 {
     if !named_apart(Declares::Theorem, outline.parts.as_slice()) {
         return Ok(None);

@@ -122,16 +122,12 @@ fn names_differ(outline: &Outline<'_>, sig: &Sig) -> bool
 
 /// The system of judgments and rules for which the outline stands over a signature, the one that is built so far. `None` where there
 /// is none: a judgment or rule of the outline is faulty, or not built yet.
-pub fn system_of(
-    alloc: Global,
-    outline: &Outline<'_>,
-    sig: Sig,
-) -> Result<Option<System>, NoMemory>
+pub fn system_of(alloc: Global, outline: &Outline<'_>, sig: Sig) -> Result<Option<System>, NoMemory>
     requires { IsBareSignature sig }
     ensures { IfOk result (λ found. MatchOption found
         ((th : Theory) → th.sig ≡ sig → IsTheoryOf (outlined outline.now) th → IsBareTheory th → ⊥)
         (λ sys. ((theory sys).sig ≡ sig) × IsTheoryOf (outlined outline.now) (theory sys) × IsBareTheory (theory sys)
-            × ((th : Theory) → th.sig ≡ sig → IsTheoryOf (outlined outline.now) th → IsBareTheory th → th ≡ theory sys))) }
+        × ((th : Theory) → th.sig ≡ sig → IsTheoryOf (outlined outline.now) th → IsBareTheory th → th ≡ theory sys))) }
 {
     if !names_differ(outline, &sig) {
         return Ok(None);

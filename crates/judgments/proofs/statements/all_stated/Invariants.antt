@@ -11,5 +11,5 @@ use Rattle.judgments.proofs.statements.all_stated.Given as goal
 abbrev pub invariant-loop-portion : goal.invariant-loop-portion
 invariant-loop-portion l = record {
   groups : l.groups ≡ groups_from 0 (map (λ portion. plain_portion (portion_view portion)) (take l.portion-index l.outline.parts.items));
-  stated : AllZip (IsBuiltTheorem (theory l.sys)) (theorems_in 0 (map (λ portion. plain_portion (portion_view portion)) (take l.portion-index l.outline.parts.items))) (map plain_statement l.all.items)
+  stated : AllZip (IsBuiltTheorem (theory l.sys)) (theorems_in 0 (map (λ portion. plain_portion (portion_view portion)) (take l.portion-index l.outline.parts.items))) (map plain_statement l.all.items);
 }

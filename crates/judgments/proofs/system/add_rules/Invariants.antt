@@ -10,5 +10,5 @@ use Rattle.judgments.proofs.system.add_rules.Given as goal
 abbrev pub invariant-loop-portion : goal.invariant-loop-portion
 invariant-loop-portion l = record {
   block : l.block ≡ blocks 0 (map (λ portion. plain_portion (portion_view portion)) (take l.portion-index l.outline.parts.items));
-  rules : HasRulesOf (theory l.initial.sys) (rules_in 0 (map (λ portion. plain_portion (portion_view portion)) (take l.portion-index l.outline.parts.items))) (theory l.sys)
+  rules : HasRulesOf (theory l.initial.sys) (rules_in 0 (map (λ portion. plain_portion (portion_view portion)) (take l.portion-index l.outline.parts.items))) (theory l.sys);
 }
