@@ -1,2 +1,11 @@
+pub mod Bare
+pub mod Built
+pub mod Collected
+pub mod Laws
 pub mod Named
+pub mod Spellings
+pub mod Statements
+pub mod Texts
+pub mod Theory
+pub mod Views
 pub mod Written

@@ -1,6 +1,6 @@
 -- The rule and the statement for which written forms stand. To be held against docs/notation.md, 'Readings' and 'Rules and statements'.
-use Rattle.std.specs.Prelude.{◌≡◌, ◌≤◌, ◌⊎◌, ℕ, List, [], ◌∷◌, ◌++◌, length, map, flat_map, slice_get, MatchOption}
-use Rattle.std.specs.List.{AllZip}
+use Rattle.std.specs.Prelude.{◌≡◌, ◌≢◌, ◌≤◌, ◌⊎◌, ℕ, List, [], ◌∷◌, ◌++◌, length, map, flat_map, take, slice_get, MatchOption}
+use Rattle.std.specs.List.{AllByRecursion, AllZip}
 use Rattle.binding_terms.specs.Numbered.{AnyByRecursion, AllNumbered}
 use Rattle.binding_terms.specs.Signature.{Signature}
 use Rattle.scheme_terms.specs.Forms.{Names}
@@ -10,7 +10,7 @@ use Rattle.rule_schemes.specs.Rules.{JudgmentScheme, Rule}
 use Rattle.rule_schemes.specs.Statement.{StatementInput, given, syntax_input, Theorem, OccursInJudgment, OccursInInput, IsOfInputs, IsOfOutputs}
 use Rattle.rule_schemes.specs.Reading.{Token, word, not_fresh, ReadingScope}
 use Rattle.rule_schemes.specs.NewNames.{AreInOrder}
-use Rattle.rule_schemes.specs.Said.{Want, want_judgment, Written, a_judgment, Said, HasOneReading}
+use Rattle.rule_schemes.specs.Said.{want_judgment, a_judgment, HasOneReading}
 use Rattle.rule_schemes.specs.declared.rule.Judgment.{Judgment}
 use Rattle.judgments.specs.Named.{AreNamesOf}
 
@@ -76,6 +76,11 @@ abbrev pub input_name : WrittenInput → List ℕ
 input_name (for_derivation name form) = name
 input_name (for_term w) = w
 
+-- the first input with this name; the word `_`, which is never cited, is no target
+abbrev pub IsTarget : List WrittenInput → List ℕ → ℕ → Type 0
+IsTarget inputs w n =
+    (w ≢ 95 ∷ []) × MatchOption (slice_get inputs n) ⊥ (λ input. input_name input ≡ w) × AllByRecursion (λ input. input_name input ≢ w) (take n inputs)
+
 -- A statement for which its name, its inputs, its conclusions, its targets and the number of its group stand. The metavariables of the
 -- inputs come first, and then the further ones of the conclusions, each in the order of their first place.
 pub record IsStatementOf (sig : Signature) (js : List Judgment) (root : Root) (name : List ℕ) (inputs : List WrittenInput) (outputs : List (List Token)) (targets : List (List ℕ)) (group : ℕ) (st : Theorem) : Type 0 where
@@ -93,6 +98,6 @@ pub record IsStatementOf (sig : Signature) (js : List Judgment) (root : Root) (n
   pub further_in_order : AreInOrder (flat_map (λ form. form) outputs) further
   pub unused : AllNumbered (λ m decl. OccursInStatement m st → ⊥) (length st.scope.metas) unread
   pub reads_inputs : AllZip (IsInputOf sig js (names_over root st.scope.metas unread)) inputs st.inputs
-  pub targets_are : AllZip (λ w n. MatchOption (slice_get inputs n) ⊥ (λ input. input_name input ≡ w)) targets st.targets
+  pub targets_are : AllZip (IsTarget inputs) targets st.targets
   pub group_is : st.group ≡ group
   pub reads_outputs : AllZip (ReadsOnlyAs sig js (names_over root st.scope.metas unread)) outputs st.outputs

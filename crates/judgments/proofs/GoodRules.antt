@@ -1,0 +1,192 @@
+-- What rules that stand for written ones meet: their forms are in scope, and each metavariable is strict.
+use Rattle.std.proofs.Common.{◌≡◌, ◌⊎◌, ◌+◌, ◌≤◌, ℕ, zero, suc, List, [], ◌∷◌, ◌++◌, length, map, inl, inr, refl, ap, sym, subst, arith, slice_get, MatchOption}
+use Rattle.std.specs.List.{AllByRecursion, AllZip}
+use Rattle.binding_terms.specs.Numbered.{AnyByRecursion, AllNumbered}
+use Rattle.binding_terms.specs.Signature.{Signature, Place, slots, binders}
+use Rattle.binding_terms.specs.declared.grammar.CatId.{CatId}
+use Rattle.binding_terms.specs.declared.grammar.Prod.{Prod}
+use Rattle.scheme_terms.specs.Forms.{Names, SchemeContext, SchemeEntry}
+use Rattle.scheme_terms.specs.SchemeTree.{SchemeTree, meta, known, local, con, Values, no_values, value, Parts, no_parts, part, OccursIn, OccursInParts, StrictIn, StrictInParts}
+use Rattle.scheme_terms.specs.SchemeScope.{IsScheme, AreSchemeParts, AreSchemes, AreValues, StandsWith}
+use Rattle.scheme_terms.specs.declared.scheme.MetaDecl.{MetaDecl}
+use Rattle.scheme_terms.specs.declared.scheme.Root.{Root}
+use Rattle.scheme_terms.specs.declared.scheme.Root.TheVariants.{Closed}
+use Rattle.rule_schemes.specs.Reading.{Token}
+use Rattle.rule_schemes.specs.Refused.{Refuses, IsFirstUnstrict, IsFirstMisplaced, AssumeAlike, with_rule}
+use Rattle.rule_schemes.specs.Rules.{JudgmentScheme, Rule, Theory, rule_root, rule_names, IsJudgmentScheme, IsRootOf, argument_slots, IsBareName, StrictInRule, StrictInJudgment, IsAssumption, IsOneEntry, MayStand, assumed_by}
+use Rattle.rule_schemes.specs.Statement.{OccursInJudgment}
+use Rattle.rule_schemes.specs.declared.fault.RuleFault.{RuleFault}
+use Rattle.rule_schemes.specs.declared.fault.RuleFault.TheVariants as faults
+use Rattle.rule_schemes.specs.declared.rule.Judgment.{Judgment}
+use Rattle.judgments.specs.Bare.{IsBareTheory}
+use Rattle.judgments.specs.Built.{IsGoodRule}
+use Rattle.judgments.specs.Collected.{AreCollected}
+use Rattle.judgments.specs.Laws.{AreBareNames}
+use Rattle.judgments.specs.Texts.{RuleText, rule_forms}
+use Rattle.judgments.specs.Theory.{IsBlockRule}
+use Rattle.judgments.specs.Written.{ReadsOnlyAs}
+use Rattle.judgments.proofs.BareForms.{form_in_scope}
+use Rattle.judgments.proofs.Collecting.{any_split}
+use Rattle.judgments.proofs.RuleLemmas.{closed_names, bare_names, numbered, no_context_read, all_used, over_closed, rule_says}
+use Rattle.judgments.proofs.WordsOfForms.{joined}
+use Rattle.judgments.proofs.Zips.{zip_append, zip_right}
+
+pub found_some : {A : Type 0} (P : A → Type 0) (xs : List A) (n : ℕ) → MatchOption (slice_get xs n) ⊥ P → (x : A) × P x
+found_some P [] n h = absurd h
+found_some P (x ∷ xs) zero h = (x, h)
+found_some P (x ∷ xs) (suc n) h = found_some P xs n h
+
+-- where no name has parameters, each place of a name is strict
+module _ (sig : Signature) (names : Names) (plain : AllByRecursion (λ (d : MetaDecl). d.params ≡ []) names.metas) where
+  bare_values : (ls : List ℕ) (ids : List CatId) (vs : Values) → ids ≡ [] → AreValues sig names ls (map (λ (p : CatId). p.0) ids) vs → vs ≡ no_values
+  bare_values ls [] no_values e h = refl
+  bare_values ls [] (value s vs) e h = absurd h
+  bare_values ls (p ∷ ids) vs e h = (let never : p ∷ ids ≡ [] = e in cc)
+
+  found_values : (ls : List ℕ) (c : ℕ) (vs : Values) (metas : List MetaDecl) (n : ℕ) → AllByRecursion (λ (d : MetaDecl). d.params ≡ []) metas
+      → MatchOption (slice_get metas n) ⊥ (λ decl. (decl.cat.0 ≡ c) × AreValues sig names ls (map (λ p. p.0) decl.params) vs) → vs ≡ no_values
+  found_values ls c vs [] n all h = absurd h
+  found_values ls c vs (d ∷ metas) zero all h = bare_values ls d.params vs all.0 h.1
+  found_values ls c vs (d ∷ metas) (suc n) all h = found_values ls c vs metas n all.1 h
+
+  bare_place : (m n : ℕ) (vs : Values) → vs ≡ no_values → OccursIn m (meta n vs) → StrictIn m (meta n vs)
+  bare_place m n no_values e (inl o) = (o, tt)
+  bare_place m n no_values e (inr o) = absurd o
+  bare_place m n (value s vs) e o = (let never : value s vs ≡ no_values = e in cc)
+
+  mutual
+    pub strict_place : (ls : List ℕ) (c m : ℕ) (s : SchemeTree) → IsScheme sig names ls c s → OccursIn m s → StrictIn m s
+    strict_place ls c m (meta n vs) h o = bare_place m n vs (found_values ls c vs names.metas n plain h) o
+    strict_place ls c m (known k) h o = o
+    strict_place ls c m (local i) h o = o
+    strict_place ls c m (con p xs) h o =
+        let f = found_some (λ (prod : Prod). (prod.cat.0 ≡ c) × AreSchemeParts sig names ls (binders prod.items) (slots prod.items) xs) sig.prods p h in
+        strict_parts ls (binders (f.0).items) m (slots (f.0).items) xs (f.1).1 o
+
+    strict_parts : (ls bs : List ℕ) (m : ℕ) (ss : List Place) (xs : Parts) → AreSchemeParts sig names ls bs ss xs → OccursInParts m xs → StrictInParts m xs
+    strict_parts ls bs m [] no_parts h o = o
+    strict_parts ls bs m [] (part n s xs) h o = absurd h
+    strict_parts ls bs m (place ∷ ss) no_parts h o = absurd h
+    strict_parts ls bs m (place ∷ ss) (part n s xs) h (inl o) = inl (strict_place (Rattle.binding_terms.specs.Scope.bound bs place.binds ++ ls) place.cat m s h.1 o)
+    strict_parts ls bs m (place ∷ ss) (part n s xs) h (inr o) = inr (strict_parts ls bs m ss xs h.2 o)
+
+  pub strict_any : (ss : List Place) (ts : List SchemeTree) (m : ℕ) → AreSchemes sig names [] ss ts → AnyByRecursion (OccursIn m) ts → AnyByRecursion (StrictIn m) ts
+  strict_any [] [] m h o = o
+  strict_any [] (t ∷ ts) m h o = absurd h
+  strict_any (s ∷ ss) [] m h o = o
+  strict_any (s ∷ ss) (t ∷ ts) m h (inl o) = inl (strict_place [] s.cat m t h.0 o)
+  strict_any (s ∷ ss) (t ∷ ts) m h (inr o) = inr (strict_any ss ts m h.1 o)
+
+-- a judgment over its names stands over no context, so that each of its names is strict
+pub strict_judgment : (th : Theory) (names : Names) → AllByRecursion (λ (d : MetaDecl). d.params ≡ []) names.metas → (j : JudgmentScheme) → IsJudgmentScheme th names j
+    → j.context ≡ record { root = Closed; entries = [] } → (m : ℕ) → OccursInJudgment m j → StrictInJudgment m j
+strict_judgment th names plain j h none m o = which (subst (λ (c : SchemeContext). AnyByRecursion (λ (e : SchemeEntry). AnyByRecursion (OccursIn m) e.args) c.entries ⊎ AnyByRecursion (OccursIn m) j.args) none o)
+  where
+    args : AnyByRecursion (OccursIn m) j.args → AnyByRecursion (StrictIn m) j.args
+    args a =
+        let f = found_some (λ (form : Judgment). IsRootOf form.ctx j.context.root × Rattle.scheme_terms.specs.SchemeScope.IsSchemeContext th.sig names j.context
+        × AreSchemes th.sig names (Rattle.scheme_terms.specs.SchemeScope.entry_variables th.sig [] j.context.entries) (argument_slots form.ctx (slots form.items)) j.args) th.judgments j.judgment h in
+        let schemes = subst (λ (c : SchemeContext). AreSchemes th.sig names (Rattle.scheme_terms.specs.SchemeScope.entry_variables th.sig [] c.entries) (argument_slots (f.0).ctx (slots (f.0).items)) j.args) none (f.1).2 in
+        strict_any th.sig names plain (argument_slots (f.0).ctx (slots (f.0).items)) j.args m schemes a
+
+    which : ⊥ ⊎ AnyByRecursion (OccursIn m) j.args → StrictInJudgment m j
+    which (inl never) = absurd never
+    which (inr a) = inr (args a)
+
+any_map : {A : Type 0} (P Q : A → Type 0) (xs : List A) → AllByRecursion (λ x. P x → Q x) xs → AnyByRecursion P xs → AnyByRecursion Q xs
+any_map P Q [] h a = a
+any_map P Q (x ∷ xs) h (inl a) = inl (h.0 a)
+any_map P Q (x ∷ xs) h (inr a) = inr (any_map P Q xs h.1 a)
+
+module _ (th : Theory) (bare : IsBareTheory th) (text : RuleText) (r : Rule) (h : IsBlockRule th.sig th.judgments text r) where
+  says : AreCollected th.sig.cats (joined (rule_forms text)) r.metas × AllZip (ReadsOnlyAs th.sig th.judgments (closed_names r.metas)) text.premises r.premises
+      × ReadsOnlyAs th.sig th.judgments (closed_names r.metas) text.conclusion r.conclusion
+  says = rule_says th.sig th.judgments bare.sig bare.apart bare.judgments text r h
+
+  plain_names : AllByRecursion (λ (d : MetaDecl). d.params ≡ []) r.metas
+  plain_names = bare_names th.sig.cats (joined (rule_forms text)) r.metas (says.0).each
+
+  bare_scope : AreBareNames (closed_names r.metas)
+  bare_scope = record { knowns = refl; parameters = plain_names }
+
+  closed_conclusion : r.conclusion.context ≡ record { root = Closed; entries = [] }
+  closed_conclusion = no_context_read th.sig th.judgments bare.sig bare.apart bare.judgments (closed_names r.metas) text.conclusion r.conclusion says.2
+
+  the_names : closed_names r.metas ≡ rule_names r
+  the_names = λ i. record { root = sym (ap (λ (c : SchemeContext). c.root) closed_conclusion) i; metas = r.metas; knowns = [] }
+
+  in_scope : (form : List Token) (j : JudgmentScheme) → ReadsOnlyAs th.sig th.judgments (closed_names r.metas) form j → IsJudgmentScheme th (rule_names r) j
+  in_scope form j k = subst (λ (n : Names). IsJudgmentScheme th n j) the_names (form_in_scope th.sig th.judgments bare.sig bare.judgments th refl refl (closed_names r.metas) bare_scope form j k)
+
+  over_none : (form : List Token) (j : JudgmentScheme) → ReadsOnlyAs th.sig th.judgments (closed_names r.metas) form j → j.context ≡ record { root = Closed; entries = [] }
+  over_none form j k = no_context_read th.sig th.judgments bare.sig bare.apart bare.judgments (closed_names r.metas) form j k
+
+  strict_in : (form : List Token) (j : JudgmentScheme) → ReadsOnlyAs th.sig th.judgments (closed_names r.metas) form j → (m : ℕ) → OccursInJudgment m j → StrictInJudgment m j
+  strict_in form j k m o = strict_judgment th (rule_names r) plain_names j (in_scope form j k) (over_none form j k) m o
+
+  ordinary : IsAssumption r → ⊥
+  ordinary a = subst (λ (c : SchemeContext). IsOneEntry c.root c.entries) closed_conclusion a
+
+  strict_name : (m : ℕ) → AnyByRecursion (OccursInJudgment m) r.premises ⊎ AnyByRecursion (OccursInJudgment m) (r.conclusion ∷ []) → StrictInRule r m
+  strict_name m (inl a) = inr (
+    ordinary,
+    inl (any_map (OccursInJudgment m) (StrictInJudgment m) r.premises
+        (zip_right (ReadsOnlyAs th.sig th.judgments (closed_names r.metas)) (λ (j : JudgmentScheme). OccursInJudgment m j → StrictInJudgment m j) (λ form j k. strict_in form j k m) text.premises r.premises says.1) a),
+  )
+  strict_name m (inr (inl a)) = inr (ordinary, inr (strict_in text.conclusion r.conclusion says.2 m a))
+  strict_name m (inr (inr never)) = absurd never
+
+  pub good_rule : IsGoodRule th r
+  good_rule = record {
+    forms = record {
+      conclusion = in_scope text.conclusion r.conclusion says.2;
+      premises = zip_right (ReadsOnlyAs th.sig th.judgments (closed_names r.metas)) (IsJudgmentScheme th (rule_names r)) in_scope text.premises r.premises says.1;
+      roots = zip_right (ReadsOnlyAs th.sig th.judgments (closed_names r.metas)) (λ (p : JudgmentScheme). StandsWith (rule_root th r.conclusion.judgment) p.context.root)
+          (λ form p k. subst (λ (c : SchemeContext). StandsWith (rule_root th r.conclusion.judgment) c.root) (sym (over_none form p k))
+          (subst (λ (root : Root). StandsWith root Closed) (sym (over_closed th.sig th.judgments bare.sig bare.apart bare.judgments r.conclusion.judgment)) tt)) text.premises r.premises says.1;
+      entries = zip_right (ReadsOnlyAs th.sig th.judgments (closed_names r.metas)) (λ (p : JudgmentScheme). length p.context.entries ≤ 8)
+          (λ form p k. subst (λ (c : SchemeContext). length c.entries ≤ 8) (sym (over_none form p k)) (let small : 0 ≤ 8 = omega arith in small)) text.premises r.premises says.1;
+    };
+    plain = plain_names;
+    closed = ap (λ (c : SchemeContext). c.root) closed_conclusion;
+    bare = inl (subst (λ (c : SchemeContext). IsBareName c.root c.entries) (sym closed_conclusion) tt);
+    strict = numbered (StrictInRule r) r.metas 0 (λ m d g. (let same : 0 + m ≡ m = omega arith in
+        subst (StrictInRule r) (sym same)
+        (strict_name m (any_split (OccursInJudgment m) r.premises (r.conclusion ∷ [])
+        (all_used th.sig th.judgments bare.sig bare.apart bare.judgments (rule_forms text) (r.premises ++ r.conclusion ∷ []) r.metas says.0
+        (zip_append (ReadsOnlyAs th.sig th.judgments (closed_names r.metas)) text.premises (text.conclusion ∷ []) r.premises (r.conclusion ∷ []) says.1 (says.2, tt)) m d g)))));
+  }
+
+first_unstrict : (r : Rule) (n m : ℕ) (decls : List MetaDecl) → AllNumbered (λ k decl. StrictInRule r k) n decls → IsFirstUnstrict r n decls m → ⊥
+first_unstrict r n m [] h f = f
+first_unstrict r n m (d ∷ decls) h (inl f) = f.1 h.0
+first_unstrict r n m (d ∷ decls) h (inr f) = first_unstrict r (suc n) m decls h.1 f.1
+
+none_misplaced : (th : Theory) (r : Rule) (ps : List JudgmentScheme) (j : ℕ) → r.conclusion.context.root ≡ Closed → IsFirstMisplaced th r ps j → ⊥
+none_misplaced th r [] j e f = f
+none_misplaced th r (p ∷ ps) j e (inl f) = f.1 (subst (λ root. MayStand th root p.context.root p.judgment) (sym e) tt)
+none_misplaced th r (p ∷ ps) j e (inr f) = none_misplaced th r ps j e f.1
+
+none_alike : (r s : Rule) → r.conclusion.context.root ≡ Closed → AssumeAlike s r → ⊥
+none_alike r s e a = go (assumed_by s.conclusion.context.root s.conclusion.context.entries) a
+  where
+    go : (ps : List ℕ) → AnyByRecursion (λ (p : ℕ). AnyByRecursion (λ (q : ℕ). p ≡ q) (assumed_by r.conclusion.context.root r.conclusion.context.entries)) ps → ⊥
+    go [] a = a
+    go (p ∷ ps) (inl a) = subst (λ root. AnyByRecursion (λ (q : ℕ). p ≡ q) (assumed_by root r.conclusion.context.entries)) e a
+    go (p ∷ ps) (inr a) = go ps a
+
+-- nothing in such a rule speaks against it
+pub never_refused : (th : Theory) (r : Rule) (fault : RuleFault) → IsGoodRule th r → Refuses th r fault → ⊥
+never_refused th r faults.BadConclusion h f = f h.bare
+never_refused th r (faults.NotStrict m) h f = first_unstrict r 0 m.0 r.metas h.strict f.first
+never_refused th r (faults.NeedsContext j) h f = none_misplaced (with_rule th r) r r.premises j.0 h.closed f.first
+never_refused th r (faults.TwoAssumptions q) h f = (let k = found_some (λ (s : Rule). AssumeAlike s r) th.rules q.0 f.alike in none_alike r k.0 h.closed k.1)
+never_refused th r faults.NoMemory h f = f
+
+-- where it is not added, there was no memory
+pub want_of_memory : (th : Theory) (r : Rule) (fault : RuleFault) → IsGoodRule th r → ((fault ≡ faults.NoMemory → ⊥) → Refuses th r fault) → fault ≡ faults.NoMemory
+want_of_memory th r faults.BadConclusion h f = absurd (never_refused th r faults.BadConclusion h (f (λ e. cc)))
+want_of_memory th r (faults.NotStrict m) h f = absurd (never_refused th r (faults.NotStrict m) h (f (λ e. cc)))
+want_of_memory th r (faults.NeedsContext j) h f = absurd (never_refused th r (faults.NeedsContext j) h (f (λ e. cc)))
+want_of_memory th r (faults.TwoAssumptions q) h f = absurd (never_refused th r (faults.TwoAssumptions q) h (f (λ e. cc)))
+want_of_memory th r faults.NoMemory h f = refl

@@ -1,0 +1,72 @@
+-- The items for which tokens stand.
+use Rattle.std.proofs.Common.{◌≡◌, ◌↔◌, ◌⊎◌, ◌≤◌, ◌<◌, ◌+◌, IsTrue, Bool, true, false, ℕ, None, List, [], ◌∷◌, ◌++◌, length, map, take, drop, get_or, inl, inr, refl, ap, ◌∙◌, sym, subst, arith, append_assoc, append-nil}
+use Rattle.std.proofs.lemmas.List.{take_more, drop_more, take-append-drop}
+use Rattle.std.specs.List.{AllZip}
+use Rattle.binding_terms.specs.Signature.{Signature}
+use Rattle.binding_terms.specs.declared.grammar.Item.{Item}
+use Rattle.sy_base.specs.Tokens.{PlainToken, is_numeral}
+use Rattle.outline_reader.specs.Plain.{PlainPortion}
+use Rattle.judgments.specs.Spellings.{IsNoSpelling}
+use Rattle.rule_schemes.specs.declared.rule.Judgment.{Judgment}
+use Rattle.judgments.specs.Bare.{IsBareItem}
+use Rattle.judgments.specs.Built.{IsBuiltItem, IsBuiltJudgment}
+use Rattle.judgments.specs.Texts.{IsListed, JudgmentText, judgment_in, judgments_in}
+use Rattle.judgments.specs.Theory.{IsTerminalToken, IsItemOf}
+use Rattle.judgments.proofs.Zips.{zip_append, zip_split, map_append, zip_map, zip_both, zip_right}
+
+-- a word that is no numeral
+pub word_terminal : (sig : Signature) (portions : List PlainPortion) (token : PlainToken) (r : Bool) → token.kind ≡ 0 → IsNoSpelling sig.cats token.text
+    → is_numeral token.text ≡ false → (IsTrue r ↔ IsListed portions token.text) → IsTrue r ↔ IsTerminalToken sig portions token
+word_terminal sig portions token r kind none numeral listed = (
+  λ t. record { kind = inl kind; word = λ _. (none, inl (listed.0 t)); quoted = λ k. (let never : 0 ≡ 4 = sym kind ∙ k in omega arith) },
+  λ h. (let k = (h.word kind).1 in which k),
+)
+  where
+    which : IsListed portions token.text ⊎ IsTrue (is_numeral token.text) → IsTrue r
+    which (inl l) = listed.1 l
+    which (inr n) = (let never : false ≡ true = sym numeral ∙ n in cc)
+
+-- the judgment of these items
+pub built_judgment : (sig : Signature) (portions : List PlainPortion) (v w : List ℕ) (form : List PlainToken) (items : List Item) → v ≡ w → length form ≤ 256
+    → AllZip (IsBuiltItem sig portions) form items
+    → IsBuiltJudgment sig portions (record { name = w; form = form; assumes = None }) (record { name = v; ctx = None; items = items })
+built_judgment sig portions v w form items named short h = (
+  record {
+    named = named;
+    within = short;
+    items = zip_map (IsBuiltItem sig portions) (IsItemOf sig portions) (λ t i b. b.0) form items h;
+    assumed = tt;
+  },
+  record { no_context = refl; terminals = zip_right (IsBuiltItem sig portions) (IsBareItem sig.cats) (λ t i b. b.1) form items h },
+)
+
+pub no_judgment : (sig : Signature) (portions : List PlainPortion) (text : JudgmentText) → ((items : List Item) → AllZip (IsBuiltItem sig portions) text.form items → ⊥)
+    → (j : Judgment) → IsBuiltJudgment sig portions text j → ⊥
+no_judgment sig portions text none j h = none j.items (zip_both (IsItemOf sig portions) (IsBareItem sig.cats) text.form j.items h.0.items h.1.terminals)
+
+judgments_append : (ps qs : List PlainPortion) → judgments_in (ps ++ qs) ≡ judgments_in ps ++ judgments_in qs
+judgments_append [] qs = refl
+judgments_append (p ∷ ps) qs = ap (λ l. judgment_in p ++ l) (judgments_append ps qs) ∙ sym (append_assoc (judgment_in p) (judgments_in ps) (judgments_in qs))
+
+one_judgment : (p : PlainPortion) → judgments_in (p ∷ []) ≡ judgment_in p
+one_judgment p = append-nil (judgment_in p)
+
+module _ {X : Type 0} (f : X → PlainPortion) (R : JudgmentText → Judgment → Type 0) (xs : List X) (i : ℕ) (d : X) (lt : i < length xs) where
+  -- the judgments of one portion more
+  pub more_judgments : (js more : List Judgment) → AllZip R (judgments_in (map f (take i xs))) js → AllZip R (judgment_in (f (get_or xs i d))) more
+      → AllZip R (judgments_in (map f (take (i + 1) xs))) (js ++ more)
+  more_judgments js more h k =
+      let e : map f (take (i + 1) xs) ≡ map f (take i xs) ++ f (get_or xs i d) ∷ [] = ap (map f) (take_more xs i d lt) ∙ map_append f (take i xs) (get_or xs i d ∷ []) in
+      let all : judgments_in (map f (take (i + 1) xs)) ≡ judgments_in (map f (take i xs)) ++ judgment_in (f (get_or xs i d)) =
+      ap judgments_in e ∙ judgments_append (map f (take i xs)) (f (get_or xs i d) ∷ []) ∙ ap (λ l. judgments_in (map f (take i xs)) ++ l) (one_judgment (f (get_or xs i d))) in
+      subst (λ l. AllZip R l (js ++ more)) (sym all) (zip_append R (judgments_in (map f (take i xs))) (judgment_in (f (get_or xs i d))) js more h k)
+
+  -- where one portion has none, there are none
+  pub no_judgments : ((js : List Judgment) → AllZip R (judgment_in (f (get_or xs i d))) js → ⊥) → (js : List Judgment) → AllZip R (judgments_in (map f xs)) js → ⊥
+  no_judgments none js h =
+      let e : map f xs ≡ map f (take i xs) ++ (f (get_or xs i d) ∷ map f (drop (i + 1) xs)) =
+      ap (map f) (sym (take-append-drop i xs) ∙ ap (λ l. take i xs ++ l) (drop_more xs i d lt)) ∙ map_append f (take i xs) (get_or xs i d ∷ drop (i + 1) xs) in
+      let all = ap judgments_in e ∙ judgments_append (map f (take i xs)) (f (get_or xs i d) ∷ map f (drop (i + 1) xs)) in
+      let parts = zip_split R (judgments_in (map f (take i xs))) (judgment_in (f (get_or xs i d)) ++ judgments_in (map f (drop (i + 1) xs))) js (subst (λ l. AllZip R l js) all h) in
+      let here = zip_split R (judgment_in (f (get_or xs i d))) (judgments_in (map f (drop (i + 1) xs))) parts.1 parts.4 in
+      none here.0 here.3

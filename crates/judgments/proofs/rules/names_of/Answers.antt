@@ -1,0 +1,7 @@
+use Rattle.std.proofs.Common.{[]}
+use Rattle.judgments.proofs.Collecting.{no_tokens}
+use Rattle.judgments.proofs.rules.names_of.Goals as goal
+
+pub returns : goal.returns
+returns c =
+    c.in_ok-take_names.ensures.collected _ (c.in_ok-take_all_names.ensures.collected [] (rw c.new-metas.ensures (no_tokens c.args.sig.now.cats)))

@@ -1,0 +1,179 @@
+// The items for which the tokens of a judgment's form stand.
+ghost use Rattle.std.specs.Prelude.{◌≡◌, ◌↔◌, ◌⊎◌, ◌≢◌, ◌∷◌, [], IsTrue, IfOk, MatchOption, List, map, ◌==◌};
+ghost use Rattle.std.specs.List.{AllZip};
+ghost use Rattle.binding_terms.specs.Numbered.{AnyByRecursion};
+ghost use Rattle.binding_terms.specs.declared.grammar.Item.{Item};
+ghost use Rattle.proof_lexer.specs.View.{token_view, kind_number};
+ghost use Rattle.binding_terms.specs.declared.grammar.Item.TheVariants.{Slot};
+ghost use Rattle.outline_reader.specs.Views.{portion_view};
+ghost use Rattle.outline_reader.specs.Plain.{plain_portion, outlined};
+ghost use Rattle.judgments.specs.Spellings.{IsNoSpelling};
+ghost use Rattle.judgments.specs.Texts.{ListsText, IsListed};
+ghost use Rattle.judgments.specs.Theory.{IsTerminalToken, IsItemOf};
+ghost use Rattle.judgments.specs.Built.{IsBuiltItem};
+
+use crate::words::{same_bytes, spelled, text_of};
+use binding_terms::{CatId, Item, NoMemory, Sig};
+use outline_reader::{Outline, Portion};
+use proof_lexer::{Kind, Token, is_numeral};
+use sqlite_items::Items;
+use std::alloc::Global;
+
+fn has_text(items: &[Token<'_>], text: &[u8]) -> bool
+    ensures { IsTrue result ↔ AnyByRecursion (λ item. text.now ≡ item.text) (map token_view items.now) }
+{
+    for item in items {
+        if same_bytes(text, item.text.as_bytes()) {
+            return true;
+        }
+    }
+    false
+}
+
+/// Whether the portion lists the text as a terminal.
+fn lists_text(portion: &Portion<'_>, text: &[u8]) -> bool
+    ensures { IsTrue result ↔ ListsText text.now (plain_portion (portion_view portion.now)) }
+{
+    match portion {
+        Portion::Terminals { items, .. } => has_text(items, text),
+        _ => false,
+    }
+}
+
+/// Whether a terminals part lists the text.
+fn is_listed(outline: &Outline<'_>, text: &[u8]) -> bool
+    ensures { IsTrue result ↔ IsListed (outlined outline.now) text.now }
+{
+    for portion in outline.parts.as_slice() {
+        if lists_text(portion, text) {
+            return true;
+        }
+    }
+    false
+}
+
+fn is_parenthesis(text: &[u8]) -> bool
+    ensures { IsTrue result ↔ ((text.now ≡ 40 ∷ []) ⊎ (text.now ≡ 41 ∷ [])) }
+{
+    same_bytes(text, b"(".as_slice()) || same_bytes(text, b")".as_slice())
+}
+
+fn is_square(text: &[u8]) -> bool
+    ensures { IsTrue result ↔ ((text.now ≡ 91 ∷ []) ⊎ (text.now ≡ 93 ∷ [])) }
+{
+    same_bytes(text, b"[".as_slice()) || same_bytes(text, b"]".as_slice())
+}
+
+/// Whether the token, which is no spelling of a category, is a terminal of a judgment's form.
+fn is_terminal(sig: &Sig, outline: &Outline<'_>, token: &Token<'_>) -> bool
+    requires { IsNoSpelling sig.now.cats token.now.text.now }
+    ensures { IsTrue result ↔ IsTerminalToken sig.now (outlined outline.now) (token_view token.now) }
+{
+    let text = token.text.as_bytes();
+    match token.kind {
+        Kind::Word => is_numeral(token.text) || is_listed(outline, text),
+        Kind::Symbol => !same_bytes(text, b"|".as_slice()),
+        Kind::Punct => !is_parenthesis(text) && !is_square(text),
+        Kind::Bar => false,
+        Kind::Quoted => !is_parenthesis(text),
+    }
+}
+
+pub fn is_word(kind: Kind) -> bool
+    ensures { IsTrue result ↔ (kind_number kind ≡ 0) }
+{
+    match kind {
+        Kind::Word => true,
+        Kind::Symbol => false,
+        Kind::Punct => false,
+        Kind::Bar => false,
+        Kind::Quoted => false,
+    }
+}
+
+fn is_quoted(kind: Kind) -> bool
+    ensures { result ≡ (kind_number kind == 4) }
+{
+    match kind {
+        Kind::Word => false,
+        Kind::Symbol => false,
+        Kind::Punct => false,
+        Kind::Bar => false,
+        Kind::Quoted => true,
+    }
+}
+
+/// The terminal, where the token, which is no spelling of a category, is one.
+fn terminal_of(
+    alloc: Global,
+    sig: &Sig,
+    outline: &Outline<'_>,
+    token: &Token<'_>,
+) -> Result<Option<Item>, NoMemory>
+    requires { IsNoSpelling sig.now.cats token.now.text.now }
+    ensures { IfOk result (λ found. MatchOption found
+        ((item : Item) → IsBuiltItem sig.now (outlined outline.now) (token_view token.now) item → ⊥)
+        (λ item. IsBuiltItem sig.now (outlined outline.now) (token_view token.now) item)) }
+{
+    if !is_terminal(sig, outline, token) {
+        return Ok(None);
+    }
+    let text = text_of(alloc, token.text.as_bytes())?;
+    Ok(Some(Item::Word {
+        text,
+        quoted: is_quoted(token.kind),
+    }))
+}
+
+/// The slot of the category, where the token is a word.
+fn slot_of(alloc: Global, token: &Token<'_>, cat: CatId) -> Option<Item>
+    ensures { MatchOption result ((kind_number token.now.kind ≡ 0) → ⊥)
+        (λ item. (kind_number token.now.kind ≡ 0) × (item ≡ Slot cat [])) }
+{
+    if is_word(token.kind) {
+        Some(Item::Slot {
+            cat,
+            binds: Items::new(alloc),
+        })
+    } else {
+        None
+    }
+}
+
+/// The item for which the token stands. A quoted token that is spelled as a category is not built yet.
+pub fn item_of(
+    alloc: Global,
+    sig: &Sig,
+    outline: &Outline<'_>,
+    token: &Token<'_>,
+) -> Result<Option<Item>, NoMemory>
+    ensures { IfOk result (λ found. MatchOption found
+        ((item : Item) → IsBuiltItem sig.now (outlined outline.now) (token_view token.now) item → ⊥)
+        (λ item. IsBuiltItem sig.now (outlined outline.now) (token_view token.now) item)) }
+{
+    match spelled(sig.cats().as_slice(), token.text.as_bytes())? {
+        Some(cat) => Ok(slot_of(alloc, token, cat)),
+        None => terminal_of(alloc, sig, outline, token),
+    }
+}
+
+/// The items for which the tokens of a form stand.
+pub fn items_of(
+    alloc: Global,
+    sig: &Sig,
+    outline: &Outline<'_>,
+    form: &[Token<'_>],
+) -> Result<Option<Items<Item>>, NoMemory>
+    ensures { IfOk result (λ found. MatchOption found
+        ((items : List Item) → AllZip (IsBuiltItem sig.now (outlined outline.now)) (map token_view form.now) items → ⊥)
+        (λ items. AllZip (IsBuiltItem sig.now (outlined outline.now)) (map token_view form.now) items)) }
+{
+    let mut all = Items::new(alloc);
+    for token in form {
+        match item_of(alloc, sig, outline, token)? {
+            Some(item) => all.push(item)?,
+            None => return Ok(None),
+        }
+    }
+    Ok(Some(all))
+}
