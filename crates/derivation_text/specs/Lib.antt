@@ -1,4 +1,10 @@
+pub mod Bare
+pub mod Forms
+pub mod Found
+pub mod Inputs
+pub mod Lines
 pub mod Page
 pub mod Text
+pub mod Valid
 pub mod View
 pub mod Worked

@@ -1,11 +1,15 @@
 //! Judgments and derivations as text.
 #![tactic(auto)]
 
+mod cited;
 mod context;
 mod derivation;
+mod derivs;
 mod judgment;
+mod node;
 mod page;
 mod same;
+mod signs;
 mod term;
 #[cfg(test)]
 mod tests;
@@ -13,5 +17,6 @@ mod words;
 mod worked;
 
 pub use derivation::print_derivs;
+pub use derivs::{Argument, Derivs, Ending, Kept, Named};
 pub use judgment::print_judgment;
 pub use worked::{binders_are_written, contexts_are_written, sums_are_written};
