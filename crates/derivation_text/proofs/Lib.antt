@@ -4,3 +4,6 @@ pub mod Pages
 pub mod Sameness
 pub mod Scopes
 pub mod Terms
+pub mod NodeLemmas
+pub mod CitedLemmas
+pub mod FormLemmas

@@ -5,7 +5,11 @@ use Rattle.std.specs.Str.{bytes_eq}
 use Rattle.rule_schemes.specs.Derivation.{Derivation}
 use Rattle.rule_schemes.specs.Reading.{Token, word, punctuation}
 use Rattle.derivation_text.specs.Forms.{is_name, is_own_name, is_reserved_token, IsForm, colon}
-use Rattle.derivation_text.specs.Valid.{tree_named}
+use Rattle.scheme_terms.specs.declared.scheme.Root.TheVariants.{Closed}
+use Rattle.rule_schemes.specs.Rules.{JudgmentScheme, JudgmentValue, Theory}
+use Rattle.rule_schemes.specs.Said.{want_judgment, a_judgment}
+use Rattle.rule_schemes.specs.AtValue.{judgment_at}
+use Rattle.derivation_text.specs.Valid.{tree_named, ReadsAlone, nothing_around}
 use Rattle.derivation_text.specs.declared.derivs.Named.{Named}
 
 abbrev pub is_name_token : Token → Bool
@@ -67,3 +71,21 @@ name_trees known (t ∷ ts) = with_first (tree_at known t) (further_trees known 
 abbrev pub cited_trees : List Named → List Token → Option (List Derivation)
 cited_trees known [] = Some []
 cited_trees known (t ∷ ts) = if (t.0 == 0) && bytes_eq t.1 (codes "on") then name_trees known ts else None
+
+-- the form has this one reading as a judgment, without a context line
+abbrev pub ReadsJudgment : Theory → List Token → JudgmentScheme → Type 0
+ReadsJudgment th ts j = ReadsAlone th nothing_around (want_judgment ∷ []) ts 0 (a_judgment j)
+
+abbrev pub HasNoJudgment : Theory → List Token → Type 0
+HasNoJudgment th ts = (j : JudgmentScheme) → ReadsJudgment th ts j → ⊥
+
+-- a form without a context
+pub record IsClosedForm (j : JudgmentScheme) : Type 0 where
+  pub root : j.context.root ≡ Closed
+  pub entries : j.context.entries ≡ []
+
+-- the judgment that the form is
+pub record HasValue (th : Theory) (ts : List Token) (v : JudgmentValue) : Type 0 where
+  pub scheme : JudgmentScheme
+  pub reads : ReadsJudgment th ts scheme
+  pub value : v ≡ judgment_at nothing_around.value scheme

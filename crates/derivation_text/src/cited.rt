@@ -1,5 +1,5 @@
 //! The trees of names.
-ghost use Rattle.std.specs.Prelude.{◌≡◌, ◌++◌, IfOk, Some, None, map, option_map, if◌then◌else◌};
+ghost use Rattle.std.specs.Prelude.{◌≡◌, ◌++◌, ◌∷◌, IfOk, Some, None, map, option_map, if◌then◌else◌};
 ghost use Rattle.notation_parser.specs.View.{token};
 ghost use Rattle.derivation_text.specs.Found as found;
 ghost use Rattle.derivation_text.specs.Valid.{tree_named};
@@ -57,28 +57,24 @@ fn further_trees(
     Ok(rest.len() == 0)
 }
 
-/// The trees of names with commas.
+/// The trees of names with commas, of which this is the first.
 fn name_trees(
     alloc: Global,
     known: &[Named],
-    tokens: &[Token<'_>],
+    first: &Token<'_>,
+    rest: &[Token<'_>],
 ) -> Result<Option<Vec<Deriv>>, NoMemory>
-    ensures { IfOk result (λ trees. option_map (λ ds. ds.items) trees ≡ found.name_trees known.now (map token tokens.now)) }
+    ensures { IfOk result (λ trees. option_map (λ ds. ds.items) trees ≡ found.name_trees known.now (token first.now ∷ map token rest.now)) }
 {
-    match tokens {
-        [first, rest @ ..] => {
-            let mut trees = Vec::new(alloc);
-            match tree_at(known, first)? {
-                Some(tree) => trees.push(tree)?,
-                None => return Ok(None),
-            }
-            if further_trees(known, rest, &mut trees)? {
-                Ok(Some(trees))
-            } else {
-                Ok(None)
-            }
-        }
-        _ => Ok(None),
+    let mut trees = Vec::new(alloc);
+    match tree_at(known, first)? {
+        Some(tree) => trees.push(tree)?,
+        None => return Ok(None),
+    }
+    if further_trees(known, rest, &mut trees)? {
+        Ok(Some(trees))
+    } else {
+        Ok(None)
     }
 }
 
@@ -91,12 +87,13 @@ pub fn cited_trees(
     ensures { IfOk result (λ trees. option_map (λ ds. ds.items) trees ≡ found.cited_trees known.now (map token tokens.now)) }
 {
     match tokens {
-        [on, rest @ ..] => {
+        [] => Ok(Some(Vec::new(alloc))),
+        [_] => Ok(None),
+        [on, first, rest @ ..] => {
             if !is_word(b"on", on) {
                 return Ok(None);
             }
-            name_trees(alloc, known, rest)
+            name_trees(alloc, known, first, rest)
         }
-        _ => Ok(Some(Vec::new(alloc))),
     }
 }

@@ -8,6 +8,7 @@ mod derivs;
 mod judgment;
 mod node;
 mod page;
+mod reading;
 mod same;
 mod signs;
 mod term;

@@ -1,5 +1,6 @@
 //! The parts of a line with a judgment.
-ghost use Rattle.std.specs.Prelude.{◌≡◌, MatchOption, map, List, ℕ};
+ghost use Rattle.std.specs.Prelude.{◌≡◌, ◌∷◌, MatchOption, map, List, ℕ};
+ghost use Rattle.rule_schemes.specs.Reading.{Token as Read};
 ghost use Rattle.notation_parser.specs.View.{token};
 ghost use Rattle.derivation_text.specs.Found.{IsCut, HasParts, HasNoParts, HasFormParts, HasNoFormParts};
 
@@ -31,21 +32,42 @@ fn cut<'a>(tokens: &'a [Token<'a>]) -> (&'a [Token<'a>], &'a [Token<'a>])
     (tokens, &[])
 }
 
+/// The parts from the form on, where these three tokens follow it.
+fn by_parts<'a>(
+    form: &'a [Token<'a>],
+    by: &Token<'_>,
+    of_rule: &Token<'_>,
+    rule: &Token<'a>,
+    rest: &'a [Token<'a>],
+) -> Option<FormParts<'a>>
+    ensures { (ts : List Read) → IsCut ts (map token form.now) (token by.now ∷ (token of_rule.now ∷ (token rule.now ∷ map token rest.now)))
+        → MatchOption result (HasNoFormParts ts) (λ p. HasFormParts ts (map token p.form.now) p.rule.now (map token p.rest.now)) }
+{
+    if form.len() == 0 {
+        return None;
+    }
+    if !is_word(b"by", by) {
+        return None;
+    }
+    if !is_word(b"rule", of_rule) {
+        return None;
+    }
+    if !is_name_token(rule) {
+        return None;
+    }
+    Some(FormParts {
+        form,
+        rule: rule.text,
+        rest,
+    })
+}
+
 fn after_form<'a>(form: &'a [Token<'a>], back: &'a [Token<'a>]) -> Option<FormParts<'a>>
-    ensures { (ts : List (ℕ × List ℕ)) → IsCut ts (map token form.now) (map token back.now) → MatchOption result (HasNoFormParts ts)
-        (λ p. HasFormParts ts (map token p.form.now) p.rule.now (map token p.rest.now)) }
+    ensures { (ts : List Read) → IsCut ts (map token form.now) (map token back.now)
+        → MatchOption result (HasNoFormParts ts) (λ p. HasFormParts ts (map token p.form.now) p.rule.now (map token p.rest.now)) }
 {
     match back {
-        [by, of_rule, rule, rest @ ..] => {
-            if form.len() == 0 || !is_word(b"by", by) || !is_word(b"rule", of_rule) || !is_name_token(rule) {
-                return None;
-            }
-            Some(FormParts {
-                form,
-                rule: rule.text,
-                rest,
-            })
-        }
+        [by, of_rule, rule, rest @ ..] => by_parts(form, by, of_rule, rule, rest),
         _ => None,
     }
 }
@@ -58,24 +80,36 @@ fn form_parts<'a>(tokens: &'a [Token<'a>]) -> Option<FormParts<'a>>
     after_form(form, back)
 }
 
+fn named_parts<'a>(
+    name: &Token<'a>,
+    colon: &Token<'_>,
+    tokens: &'a [Token<'a>],
+) -> Option<NodeParts<'a>>
+    ensures { MatchOption result (HasNoParts (token name.now ∷ (token colon.now ∷ map token tokens.now)))
+        (λ p. HasParts (token name.now ∷ (token colon.now ∷ map token tokens.now)) p.name.now (map token p.parts.form.now) p.parts.rule.now (map token p.parts.rest.now)) }
+{
+    if !is_own_name_token(name) {
+        return None;
+    }
+    if !is_colon(colon) {
+        return None;
+    }
+    match form_parts(tokens) {
+        Some(parts) => Some(NodeParts {
+            name: name.text,
+            parts,
+        }),
+        None => None,
+    }
+}
+
 /// The parts of a line with a judgment, if the tokens are one. What follows the rule's name is not looked at.
 pub fn node_parts<'a>(tokens: &'a [Token<'a>]) -> Option<NodeParts<'a>>
     ensures { MatchOption result (HasNoParts (map token tokens.now))
         (λ p. HasParts (map token tokens.now) p.name.now (map token p.parts.form.now) p.parts.rule.now (map token p.parts.rest.now)) }
 {
     match tokens {
-        [name, colon, rest @ ..] => {
-            if !is_own_name_token(name) || !is_colon(colon) {
-                return None;
-            }
-            match form_parts(rest) {
-                Some(parts) => Some(NodeParts {
-                    name: name.text,
-                    parts,
-                }),
-                None => None,
-            }
-        }
+        [name, colon, rest @ ..] => named_parts(name, colon, rest),
         _ => None,
     }
 }
