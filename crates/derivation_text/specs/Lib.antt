@@ -3,6 +3,7 @@ pub mod Forms
 pub mod Found
 pub mod Inputs
 pub mod Lines
+pub mod Making
 pub mod Page
 pub mod Text
 pub mod Valid
