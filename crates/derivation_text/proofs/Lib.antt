@@ -7,3 +7,5 @@ pub mod Terms
 pub mod NodeLemmas
 pub mod CitedLemmas
 pub mod FormLemmas
+pub mod RuleLemmas
+pub mod LineLemmas

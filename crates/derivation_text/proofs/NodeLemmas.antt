@@ -1,6 +1,8 @@
 -- The parts of a line with a judgment are found by its first reserved word, and are the only ones.
 use Rattle.std.proofs.Common.{◌≡◌, ◌≢◌, ◌↔◌, ◌<◌, ◌+◌, ℕ, ◌==◌, Bool, true, false, ◌&&◌, IsTrue, IsFalse, List, [], ◌∷◌, ◌++◌, length, map, refl, ap, ◌∙◌, sym, subst, arith, codes, true≢false, length-append}
 use Rattle.std.proofs.lemmas.Bool.{eqb-true}
+use Rattle.std.proofs.lemmas.Slice.Eq.{bytes_eq-Decides}
+use Rattle.std.specs.Str.{bytes_eq}
 use Rattle.std.specs.List.{AllByRecursion}
 use Rattle.rule_schemes.specs.Reading.{Token, word}
 use Rattle.derivation_text.specs.Forms.{is_reserved, is_name, is_own_name, is_reserved_token, IsForm, colon}
@@ -59,11 +61,11 @@ pub no_parts_name : (ts front back : List Token) (a b c : Token) → IsCut ts fr
 no_parts_name ts front back a b c cut n form r rest h =
     clash (subst (λ (t : Token). IsTrue (is_name_token t)) (sym (heads (tails (tails (parts_of_cut ts front _ form r rest cut h).1)))) (word_is_name r h.rule_is)) n
 
-and_left : (a b : Bool) → IsTrue (a && b) → IsTrue a
+pub and_left : (a b : Bool) → IsTrue (a && b) → IsTrue a
 and_left true b h = refl
 and_left false b h = h
 
-and_right : (a b : Bool) → IsTrue (a && b) → IsTrue b
+pub and_right : (a b : Bool) → IsTrue (a && b) → IsTrue b
 and_right true b h = h
 and_right false b h = absurd (true≢false (sym h))
 
@@ -126,3 +128,15 @@ empty_map f (x ∷ xs) e = absurd (omega arith)
 
 pub not_when : {b : Bool} {P : Type 0} → (IsTrue b ↔ P) → b ≡ false → P → ⊥
 not_when both f p = true≢false (sym (both.1 p) ∙ f)
+
+pub same_bytes : (xs ys : List ℕ) → IsTrue (bytes_eq xs ys) → xs ≡ ys
+same_bytes xs ys h = (bytes_eq-Decides xs ys).0 h
+
+-- a line has its parts in one way
+pub parts_once : {ts : List Token} {name other : List ℕ} {form form2 : List Token} {r r2 : List ℕ} {rest rest2 : List Token} → HasParts ts name form r rest → HasParts ts other form2 r2 rest2
+    → (name ≡ other) × (form ≡ form2) × (r ≡ r2) × (rest ≡ rest2)
+parts_once {form = form} {form2 = form2} {r = r} {r2 = r2} {rest = rest} {rest2 = rest2} a b =
+    let whole = sym a.tokens_are ∙ b.tokens_are in
+    let at = cut_once form (word (codes "by") ∷ (word (codes "rule") ∷ (word r ∷ rest))) form2 (word (codes "by") ∷ (word (codes "rule") ∷ (word r2 ∷ rest2)))
+    (tails (tails whole)) a.form_is.none_reserved by_stops b.form_is.none_reserved by_stops in
+    (ap (λ (t : Token). t.1) (heads whole), at.0, ap (λ (t : Token). t.1) (heads (tails (tails at.1))), tails (tails (tails at.1)))

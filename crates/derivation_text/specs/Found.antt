@@ -2,14 +2,14 @@
 use Rattle.std.specs.Prelude.{◌≡◌, ◌≢◌, ℕ, ◌==◌, ◌&&◌, if◌then◌else◌, Bool, IsTrue, IsFalse, List, [], ◌∷◌, ◌++◌, Option, Some, None, option_map, codes}
 use Rattle.std.specs.List.{AllByRecursion}
 use Rattle.std.specs.Str.{bytes_eq}
-use Rattle.rule_schemes.specs.Derivation.{Derivation}
+use Rattle.rule_schemes.specs.Derivation.{Derivation, Derives}
 use Rattle.rule_schemes.specs.Reading.{Token, word, punctuation}
 use Rattle.derivation_text.specs.Forms.{is_name, is_own_name, is_reserved_token, IsForm, colon}
 use Rattle.scheme_terms.specs.declared.scheme.Root.TheVariants.{Closed}
 use Rattle.rule_schemes.specs.Rules.{JudgmentScheme, JudgmentValue, Theory}
 use Rattle.rule_schemes.specs.Said.{want_judgment, a_judgment}
 use Rattle.rule_schemes.specs.AtValue.{judgment_at}
-use Rattle.derivation_text.specs.Valid.{tree_named, ReadsAlone, nothing_around}
+use Rattle.derivation_text.specs.Valid.{tree_named, ReadsAlone, nothing_around, rule_named, IsMade, NamesTree}
 use Rattle.derivation_text.specs.declared.derivs.Named.{Named}
 
 abbrev pub is_name_token : Token → Bool
@@ -89,3 +89,23 @@ pub record HasValue (th : Theory) (ts : List Token) (v : JudgmentValue) : Type 0
   pub scheme : JudgmentScheme
   pub reads : ReadsJudgment th ts scheme
   pub value : v ≡ judgment_at nothing_around.value scheme
+
+-- the trees of all names are derivations
+abbrev pub AllDerive : Theory → List Named → Type 0
+AllDerive th known = AllByRecursion (λ one. Derives th one.tree) known
+
+-- the tree that the form, the rule and what follows the rule's name make
+pub record IsPartsTree (th : Theory) (known : List Named) (form : List Token) (rule : List ℕ) (rest : List Token) (tree : Derivation) : Type 0 where
+  pub value : JudgmentValue
+  pub has_value : HasValue th form value
+  pub number : ℕ
+  pub rule_is : rule_named th.rules rule ≡ Some number
+  pub trees : List Derivation
+  pub cited : cited_trees known rest ≡ Some trees
+  pub makes : IsMade th number value trees tree
+
+abbrev pub HasNoPartsTree : Theory → List Named → List Token → List ℕ → List Token → Type 0
+HasNoPartsTree th known form rule rest = (tree : Derivation) → IsPartsTree th known form rule rest tree → ⊥
+
+abbrev pub HasNoNamedTree : Theory → List Named → List Token → Type 0
+HasNoNamedTree th known ts = (one : Named) → NamesTree th nothing_around known ts one → ⊥

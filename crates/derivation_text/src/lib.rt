@@ -6,6 +6,7 @@ mod context;
 mod derivation;
 mod derivs;
 mod judgment;
+mod line;
 mod making;
 mod node;
 mod page;

@@ -8,6 +8,7 @@ use crate::signs::{is_colon, is_name_token, is_own_name_token, is_reserved_token
 use proof_lexer::Token;
 
 /// The form, the rule's name, and what follows it.
+#[derive(Clone, Copy)]
 pub struct FormParts<'a> {
     pub form: &'a [Token<'a>],
     pub rule: &'a str,
@@ -15,6 +16,7 @@ pub struct FormParts<'a> {
 }
 
 /// The parts of a line with a judgment.
+#[derive(Clone, Copy)]
 pub struct NodeParts<'a> {
     pub name: &'a str,
     pub parts: FormParts<'a>,
