@@ -1,17 +1,19 @@
 -- A line with a judgment, from its parts and what these make.
-use Rattle.std.proofs.Common.{◌≡◌, ◌<◌, ℕ, Bool, true, false, IsTrue, List, [], ◌∷◌, ◌++◌, length, map, refl, ap, ◌∙◌, sym, subst, arith, Some, None, option_map, cond, nat_lt, true≢false}
-use Rattle.std.specs.Prelude.{Option, is_some}
-use Rattle.std.specs.Bool.{not}
+use Rattle.std.proofs.Common.{◌≡◌, ◌<◌, ℕ, Bool, true, false, IsTrue, List, [], ◌∷◌, ◌++◌, length, map, refl, ap, ◌∙◌, sym, subst, arith, Some, None, option_map, cond, nat_lt, codes, true≢false}
+use Rattle.std.specs.Prelude.{Option, is_some, MatchOption, Result, Ok, Err, IfOk, not, ◌+◌}
+use Rattle.std.proofs.lemmas.List.Recursion.{is_position_or_len}
+use Rattle.rule_schemes.specs.Said.{Said, a_judgment}
 use Rattle.std.specs.List.{AllByRecursion, AllZip, position, position_or_len}
 use Rattle.std.proofs.lemmas.List.{length-map}
 use Rattle.rule_schemes.specs.Rules.{Theory, JudgmentValue, JudgmentScheme, IsJudgment}
 use Rattle.rule_schemes.specs.Derivation.{Derivation, Derives}
-use Rattle.rule_schemes.specs.Reading.{Token}
+use Rattle.rule_schemes.specs.Reading.{Token, word}
 use Rattle.rule_schemes.specs.AtValue.{judgment_at}
 use Rattle.derivation_text.specs.Bare.{HasNoContexts}
 use Rattle.derivation_text.specs.Forms.{Says, node_line, AreNames, on_tokens, colon}
-use Rattle.derivation_text.specs.Valid.{NamesTree, MakesTree, nothing_around, tree_named, IsMade}
-use Rattle.derivation_text.specs.Found.{HasParts, HasNoParts, IsPartsTree, HasNoPartsTree, HasNoNamedTree, HasValue, AllDerive, cited_trees}
+use Rattle.derivation_text.specs.Valid.{NamesTree, MakesTree, nothing_around, tree_named, rule_named, IsMade}
+use Rattle.derivation_text.specs.Found.{HasParts, HasNoParts, IsPartsTree, HasNoPartsTree, HasNoNamedTree, HasValue, HasNoJudgment, ReadsJudgment, AllDerive, cited_trees}
+use Rattle.derivation_text.specs.Making.{HasNoTree}
 use Rattle.derivation_text.specs.declared.derivs.Named.{Named}
 use Rattle.derivation_text.proofs.NodeLemmas.{parts_once}
 use Rattle.derivation_text.proofs.CitedLemmas.{cited_from, cited_to, cited_derive}
@@ -40,7 +42,7 @@ names_tree th known ts name form r rest tree label parts new makes e =
       cited = cites.names;
       says =
       record {
-        tokens_are = parts.tokens_are ∙ ap (λ (x : List Token). _ ∷ (_ ∷ (form ++ (_ ∷ (_ ∷ (_ ∷ x)))))) cites.tokens_are;
+        tokens_are = parts.tokens_are ∙ ap (λ (x : List Token). word name ∷ (colon ∷ (form ++ (word (codes "by") ∷ (word (codes "rule") ∷ (word r ∷ x)))))) cites.tokens_are;
         well_written = (parts.own, parts.form_is, parts.rule_is, cites.are_names);
       };
       valid =
@@ -94,8 +96,50 @@ no_tree_named th known ts name form r rest parts none one h =
 
 -- the place of the first that passes, in a view of a list
 place_map : {A B : Type 0} (f : A → B) (p : B → Bool) (xs : List A) → position_or_len p (map f xs) ≡ position_or_len (λ x. p (f x)) xs
-place_map f p [] = refl
-place_map f p (x ∷ xs) = ap (λ (n : ℕ). ?) (place_map f p xs)
+place_map f p xs = is_position_or_len (λ ys. position_or_len p (map f ys)) (λ x. p (f x)) refl (λ x ys. step (p (f x)) (position_or_len p (map f ys))) xs where
+    step : (b : Bool) (n : ℕ) → cond (not b) (1 + n) 0 ≡ cond b 0 (1 + n)
+    step true n = refl
+    step false n = refl
 
 pub position_map : {A B : Type 0} (f : A → B) (p : B → Bool) (xs : List A) → position p (map f xs) ≡ position (λ x. p (f x)) xs
-position_map f p xs = ?
+position_map f p xs =
+    let place = place_map f p xs in
+    let size = length-map xs f in
+    λ i. cond (nat_lt (place i) (size i)) (Some (place i)) None
+
+pub none_case : {A : Type 0} {P : Type 0} (Q : A → Type 0) (o : Option A) → MatchOption o P Q → o ≡ None → P
+none_case Q None h e = h
+none_case Q (Some a) h e = absurd (cc)
+
+pub some_case : {A : Type 0} (P : Type 0) (Q : A → Type 0) (o : Option A) (a : A) → MatchOption o P Q → o ≡ Some a → Q a
+some_case P Q None a h e = absurd (cc)
+some_case P Q (Some b) a h e = subst Q (let k : Some b ≡ Some a = e in cc) h
+
+pub answer_map : {A E : Type 0} {P P2 : Type 0} {Q Q2 : A → Type 0} (r : Result (Option A) E) → (P → P2) → ((a : A) → Q a → Q2 a)
+    → IfOk r (λ found. MatchOption found P Q) → IfOk r (λ found. MatchOption found P2 Q2)
+answer_map (Ok None) f g h = f h
+answer_map (Ok (Some a)) f g h = g a h
+answer_map (Err e) f g h = tt
+
+pub scheme_once : (th : Theory) (ts : List Token) (s t : JudgmentScheme) → ReadsJudgment th ts s → ReadsJudgment th ts t → s ≡ t
+scheme_once th ts s t a b =
+    let same = b.reading.no_other _ a.reading.reads in
+    let said : a_judgment s ≡ a_judgment t = ap (λ (x : ℕ × Said). x.1.written) same in
+    cc
+
+pub value_once : (th : Theory) (ts : List Token) (v w : JudgmentValue) → HasValue th ts v → HasValue th ts w → v ≡ w
+value_once th ts v w a b = a.value ∙ ap (judgment_at nothing_around.value) (scheme_once th ts a.scheme b.scheme a.reads b.reads) ∙ sym b.value
+
+some_once : {A : Type 0} {a b : A} {o : Option A} → o ≡ Some a → o ≡ Some b → a ≡ b
+some_once {a = a} {b = b} e f = (let k : Some a ≡ Some b = sym e ∙ f in cc)
+
+pub no_parts_tree : (th : Theory) (known : List Named) (form : List Token) (r : List ℕ) (rest : List Token) (number : ℕ) (v : JudgmentValue) (ds : List Derivation) → HasValue th form v
+    → rule_named th.rules r ≡ Some number → cited_trees known rest ≡ Some ds → HasNoTree th number v ds → HasNoPartsTree th known form r rest
+no_parts_tree th known form r rest number v ds value rule cited none tree h =
+    none tree
+    (subst (λ (n : ℕ). IsMade th n v ds tree) (some_once h.rule_is rule)
+    (subst (λ (w : JudgmentValue). IsMade th h.number w ds tree) (value_once th form h.value v h.has_value value)
+    (subst (λ (x : List Derivation). IsMade th h.number h.value x tree) (some_once h.cited cited) h.makes)))
+
+pub no_judgment_tree : (th : Theory) (known : List Named) (form : List Token) (r : List ℕ) (rest : List Token) → HasNoJudgment th form → HasNoPartsTree th known form r rest
+no_judgment_tree th known form r rest none tree h = none h.has_value.scheme h.has_value.reads

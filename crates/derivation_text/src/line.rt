@@ -1,5 +1,7 @@
 //! A line with a judgment.
 ghost use Rattle.std.specs.Prelude.{◌≡◌, ◌<◌, IfOk, MatchOption, map, None, List, length, IfSome};
+ghost use Rattle.std.specs.List.{position};
+ghost use Rattle.std.specs.Str.{bytes_eq};
 ghost use Rattle.std.specs.List.{AllByRecursion};
 ghost use Rattle.rule_schemes.specs.Derivation.{Derives};
 ghost use Rattle.rule_schemes.specs.View.{theory};
@@ -17,17 +19,22 @@ use crate::reading::judgment_of;
 use binding_terms::{NoMemory, Text};
 use derivation_check::Deriv;
 use proof_lexer::Token;
-use rule_schemes::System;
+use rule_schemes::{RuleScheme, System};
 use std::alloc::Global;
+
+fn place_named(rules: &[RuleScheme], name: &[u8]) -> Option<usize>
+    ensures place { result ≡ position (λ rule. bytes_eq rule.name name.now) rules.now }
+    ensures within { IfSome result (λ n. n < length rules.now) }
+{
+    rules.iter().position(|rule| rule.name.bytes() == name)
+}
 
 /// The number of the first rule with that name.
 fn rule_named(sys: &System, name: &str) -> Option<usize>
     ensures number { result ≡ rule_named (theory sys.now).rules name.now }
     ensures within { IfSome result (λ n. n < length sys.now.rules) }
 {
-    sys.rules()
-        .iter()
-        .position(|rule| rule.name.bytes() == name.as_bytes())
+    place_named(sys.rules().as_slice(), name.as_bytes())
 }
 
 /// The tree of the judgment and the rule over the trees of the names, if the line makes one.
