@@ -9,3 +9,4 @@ pub mod CitedLemmas
 pub mod FormLemmas
 pub mod RuleLemmas
 pub mod LineLemmas
+pub mod SplitLemmas

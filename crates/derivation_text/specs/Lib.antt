@@ -1,10 +1,13 @@
 pub mod Bare
+pub mod Contents
+pub mod Ending
 pub mod Forms
 pub mod Found
 pub mod Inputs
 pub mod Lines
 pub mod Making
 pub mod Page
+pub mod Splitting
 pub mod Text
 pub mod Valid
 pub mod View

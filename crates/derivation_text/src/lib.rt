@@ -5,6 +5,7 @@ mod cited;
 mod context;
 mod derivation;
 mod derivs;
+mod ending;
 mod judgment;
 mod line;
 mod making;
@@ -13,6 +14,7 @@ mod page;
 mod reading;
 mod same;
 mod signs;
+mod split;
 mod term;
 #[cfg(test)]
 mod tests;
