@@ -10,3 +10,4 @@ pub mod FormLemmas
 pub mod RuleLemmas
 pub mod LineLemmas
 pub mod SplitLemmas
+pub mod EndingLemmas

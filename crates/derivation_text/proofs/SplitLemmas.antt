@@ -70,24 +70,23 @@ whole_line n t (u ∷ a) b e all h =
     ∙ front_same t.line (taken (token_view t)) (n, map token (u ∷ a)) (text_lines (map token_view b)) e
     ∙ (λ i. (e i, taken_token t i ∷ map token (u ∷ a)) ∷ text_lines (map token_view b))
 
-first_of : (ts a b : List Token) (r : Token) → r ≡ get_or ts 0 r → 0 < length ts → IsLineCut r.line ts a b → (t : Token) × (as_is : List Token) × (a ≡ t ∷ as_is) × (t.line ≡ r.line)
-first_of [] a b r e some cut = absurd (omega arith)
-first_of (t ∷ ts) [] b r e some cut =
-    let same : r ≡ t = e in
-    absurd (subst (IsOtherLine r.line) (sym cut.parts) cut.stops (ap (λ (x : Token). x.line) (sym same)))
-first_of (t ∷ ts) (u ∷ a) b r e some cut = (u, a, refl, cut.on_line.0)
+first_of : (ts a b : List Token) (d : Token) → 0 < length ts → IsLineCut (get_or ts 0 d).line ts a b → (t : Token) × (as_is : List Token) × (a ≡ t ∷ as_is) × (t.line ≡ (get_or ts 0 d).line)
+first_of [] a b d some cut = absurd (omega arith)
+first_of (t ∷ ts) [] b d some cut = absurd (subst (IsOtherLine t.line) (sym cut.parts) cut.stops refl)
+first_of (t ∷ ts) (u ∷ a) b d some cut = (u, a, refl, cut.on_line.0)
 
-pub first_is : (ts a b : List Token) (r : Token) → r ≡ get_or ts 0 r → 0 < length ts → IsLineCut r.line ts a b → IsFirstLine (map token_view ts) (map token a) (map token_view b)
-first_is ts a b r e some cut =
-    let first = first_of ts a b r e some cut in
-    let on_line = subst (AllByRecursion (λ t. t.line ≡ r.line)) first.2 cut.on_line in
-    (r.line,
+pub first_is : (ts a b : List Token) (d : Token) → 0 < length ts → IsLineCut (get_or ts 0 d).line ts a b → IsFirstLine (map token_view ts) (map token a) (map token_view b)
+first_is ts a b d some cut =
+    let n = (get_or ts 0 d).line in
+    let first = first_of ts a b d some cut in
+    let on_line = subst (AllByRecursion (λ t. t.line ≡ n)) first.2 cut.on_line in
+    (n,
     ap (λ (x : List Token). text_lines (map token_view x)) (cut.parts ∙ ap (λ (x : List Token). x ++ b) first.2)
-    ∙ whole_line r.line first.0 first.1 b first.3 on_line.1 cut.stops
-    ∙ ap (λ (x : List Token). (r.line, map token x) ∷ text_lines (map token_view b)) (sym first.2))
+    ∙ whole_line n first.0 first.1 b first.3 on_line.1 cut.stops
+    ∙ ap (λ (x : List Token). (n, map token x) ∷ text_lines (map token_view b)) (sym first.2))
 
-pub first_shorter : (ts a b : List Token) (r : Token) → r ≡ get_or ts 0 r → 0 < length ts → IsLineCut r.line ts a b → length b < length ts
-first_shorter ts a b r e some cut =
-    let first = first_of ts a b r e some cut in
+pub first_shorter : (ts a b : List Token) (d : Token) → 0 < length ts → IsLineCut (get_or ts 0 d).line ts a b → length b < length ts
+first_shorter ts a b d some cut =
+    let first = first_of ts a b d some cut in
     let size : length ts ≡ length (first.0 ∷ first.1) + length b = ap length (cut.parts ∙ ap (λ (x : List Token). x ++ b) first.2) ∙ length-append (first.0 ∷ first.1) b in
     omega arith

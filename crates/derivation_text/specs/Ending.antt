@@ -1,18 +1,26 @@
 -- What functions inside the crate find in the last line of a text. No public clause cites it.
-use Rattle.std.specs.Prelude.{◌≡◌, ◌≢◌, ◌<◌, ◌+◌, ℕ, ◌==◌, ◌&&◌, if◌then◌else◌, IsFalse, List, [], ◌∷◌, ◌++◌, length, map, take, drop, Option, Some, None, is_some, slice_get}
+use Rattle.std.specs.Prelude.{◌≡◌, ◌≢◌, ◌⊎◌, ◌<◌, ◌+◌, ℕ, ◌==◌, ◌&&◌, if◌then◌else◌, IsFalse, List, [], ◌∷◌, ◌++◌, length, map, take, drop, Option, Some, None, is_some, slice_get}
 use Rattle.std.specs.List.{AllByRecursion}
 use Rattle.std.specs.Str.{bytes_eq}
-use Rattle.rule_schemes.specs.Reading.{Token, punctuation}
-use Rattle.notation_parser.specs.View.{kind_number}
-use Rattle.derivation_text.specs.Forms.{Argument, by_name, enclosed, is_reserved_token, IsForm, IsBalanced, IsArgument, argument_tokens, further_arguments, arguments_tokens}
+use Rattle.rule_schemes.specs.Reading.{Token, word, punctuation}
+use Rattle.derivation_text.specs.Forms.{APPLY, GIVES, Argument, by_name, enclosed, is_reserved_token, IsForm, IsBalanced, IsArgument, argument_tokens, further_arguments, arguments_tokens}
 use Rattle.derivation_text.specs.Valid.{tree_named, Last, no_last, applied, given_out, IsLast, IsKnownArgument}
 use Rattle.derivation_text.specs.Found.{is_name_token, with_first}
 use Rattle.derivation_text.specs.declared.derivs.Named.{Named}
-use Rattle.derivation_text.specs.declared.derivs.Kept.{Kept}
-use Rattle.derivation_text.specs.Contents.{kept_token}
 
-abbrev pub kept : Kept → Token
-kept = kept_token
+abbrev pub Given : Type 0
+Given = Argument
+
+abbrev pub apply_word : Token
+apply_word = word APPLY
+
+abbrev pub gives_word : Token
+gives_word = word GIVES
+
+-- how many parentheses are open before a token and after it
+abbrev pub Turns : ℕ → Token → ℕ → Type 0
+Turns n t m =
+    ((t ≡ punctuation 40) × (m ≡ n + 1)) ⊎ ((t ≡ punctuation 41) × (n ≡ m + 1)) ⊎ ((t ≢ punctuation 40) × (t ≢ punctuation 41) × (m ≡ n))
 
 abbrev pub NoneReserved : List Token → Type 0
 NoneReserved ts = AllByRecursion (λ t. IsFalse (is_reserved_token t)) ts
@@ -41,9 +49,6 @@ pub record Closes (open_before : ℕ) (ts form rest : List Token) : Type 0 where
 
 abbrev pub HasNoClosing : List Token → Type 0
 HasNoClosing ts = (form rest : List Token) → Closes 0 ts form rest → ⊥
-
-abbrev pub IsClosing : List Token → (place : ℕ) → Type 0
-IsClosing ts place = (place < length ts) × Closes 0 ts (take place ts) (drop (place + 1) ts)
 
 -- the tokens begin with an argument
 pub record IsFront (known : List Named) (ts : List Token) (a : Argument) (rest : List Token) : Type 0 where

@@ -79,18 +79,12 @@ pub data Argument : Type 0 where
   by_name : (name : List ℕ) → Argument
   enclosed : (form : List Token) → Argument
 
--- Each parenthesis that closes has one that opens before it, and each that opens one that closes, where so many are open before.
-abbrev pub is_opening : Token → Bool
-is_opening t = (t.0 == 2) && bytes_eq t.1 (40 ∷ [])
-
-abbrev pub is_closing : Token → Bool
-is_closing t = (t.0 == 2) && bytes_eq t.1 (41 ∷ [])
-
+-- Each parenthesis that closes has one that opens before it, and each that opens has one that closes, where so many are open before.
 pub data IsBalanced : (open_before : ℕ) → List Token → Type 0 where
-  at_end : IsBalanced 0 []
-  opens : {n : ℕ} {t : Token} {ts : List Token} → IsTrue (is_opening t) → IsBalanced (n + 1) ts → IsBalanced n (t ∷ ts)
-  closes : {n m : ℕ} {t : Token} {ts : List Token} → IsTrue (is_closing t) → n ≡ m + 1 → IsBalanced m ts → IsBalanced n (t ∷ ts)
-  neither : {n : ℕ} {t : Token} {ts : List Token} → IsFalse (is_opening t) → IsFalse (is_closing t) → IsBalanced n ts → IsBalanced n (t ∷ ts)
+  at_end : {n : ℕ} → n ≡ 0 → IsBalanced n []
+  opens : {n : ℕ} {t : Token} {ts : List Token} → t ≡ punctuation 40 → IsBalanced (n + 1) ts → IsBalanced n (t ∷ ts)
+  closes : {n m : ℕ} {t : Token} {ts : List Token} → t ≡ punctuation 41 → n ≡ m + 1 → IsBalanced m ts → IsBalanced n (t ∷ ts)
+  neither : {n : ℕ} {t : Token} {ts : List Token} → t ≢ punctuation 40 → t ≢ punctuation 41 → IsBalanced n ts → IsBalanced n (t ∷ ts)
 
 abbrev pub IsArgument : Argument → Type 0
 IsArgument (by_name w) = IsTrue (is_name w)

@@ -24,5 +24,6 @@ pub fn first_line<'a>(tokens: &'a [Token<'a>]) -> (&'a [Token<'a>], &'a [Token<'
     ensures lines { IsFirstLine (map token_view tokens.now) (map token result.0.now) (map token_view result.1.now) }
     ensures shorter { length result.1.now < length tokens.now }
 {
-    cut_line(tokens[0].line, tokens)
+    let first = &tokens[0];
+    cut_line(first.line, tokens)
 }

@@ -3,5 +3,5 @@ use Rattle.notation_parser.specs.View.{token}
 use Rattle.derivation_text.specs.Ending.{NoneReserved}
 use Rattle.derivation_text.proofs.ending.none_reserved.Given as goal
 
-abbrev pub invariant-loop-token : goal.invariant-loop-token
-invariant-loop-token l = NoneReserved (map token l.tokens) ↔ NoneReserved (map token (drop l.token-index l.tokens))
+abbrev pub invariant-loop-one : goal.invariant-loop-one
+invariant-loop-one l = NoneReserved (map token l.tokens) ↔ NoneReserved (map token (drop l.one-index l.tokens))
