@@ -23,15 +23,15 @@ further_end known trees [] short = ap Some (sym (append-nil trees))
 further_end known trees (t ∷ []) short = refl
 further_end known trees (t ∷ (u ∷ ts)) short = absurd (omega arith)
 
-if_some : {A : Type 0} (b : Bool) (x : Option A) {y : A} → (if b then x else None) ≡ Some y → IsTrue b × (x ≡ Some y)
+pub if_some : {A : Type 0} (b : Bool) (x : Option A) {y : A} → (if b then x else None) ≡ Some y → IsTrue b × (x ≡ Some y)
 if_some true x e = (refl, e)
 if_some false x e = absurd (cc)
 
-if_true : {A : Type 0} (b : Bool) (x y : A) → IsTrue b → (if b then x else y) ≡ x
+pub if_true : {A : Type 0} (b : Bool) (x y : A) → IsTrue b → (if b then x else y) ≡ x
 if_true true x y h = refl
 if_true false x y h = absurd (true≢false (sym h))
 
-with_some : {A : Type 0} (o : Option A) (rest : Option (List A)) {ys : List A} → found.with_first o rest ≡ Some ys → (a : A) × (as_is : List A) × (o ≡ Some a) × (rest ≡ Some as_is) × (ys ≡ a ∷ as_is)
+pub with_some : {A : Type 0} (o : Option A) (rest : Option (List A)) {ys : List A} → found.with_first o rest ≡ Some ys → (a : A) × (as_is : List A) × (o ≡ Some a) × (rest ≡ Some as_is) × (ys ≡ a ∷ as_is)
 with_some None rest e = absurd (cc)
 with_some (Some a) None e = absurd (cc)
 with_some (Some a) (Some all) {ys} e = (a, all, refl, refl, (let h : Some (a ∷ all) ≡ Some ys = e in cc))

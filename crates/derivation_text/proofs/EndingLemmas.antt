@@ -1,6 +1,6 @@
 -- The arguments and names of the last line of a text.
 use Rattle.std.proofs.Common.{◌≡◌, ◌≢◌, ◌<◌, ◌≤◌, ◌+◌, ℕ, length-drop, zero, suc, ◌==◌, Bool, true, false, ◌&&◌, IsTrue, IsFalse, List, [], ◌∷◌, ◌++◌, length, map, take, drop, refl, ap, ◌∙◌, sym, subst, arith, get_or, Some, None, nat_eq, if◌then◌else◌, option_map, append-nil, append_assoc, inl, inr, true≢false, drop-cons, add-one, codes}
-use Rattle.std.specs.Prelude.{Option, ◌⊎◌, is_some}
+use Rattle.std.specs.Prelude.{Option, ◌⊎◌, is_some, Result, Ok, Err, IfOk, MatchBool}
 use Rattle.std.proofs.Math.Seq.{take-suc}
 use Rattle.std.proofs.lemmas.List.{map-append}
 use Rattle.std.specs.List.{AllByRecursion}
@@ -8,11 +8,16 @@ use Rattle.rule_schemes.specs.Reading.{word, punctuation}
 use Rattle.rule_schemes.specs.Reading.{Token as Read}
 use Rattle.proof_lexer.specs.declared.token.Token.{Token}
 use Rattle.notation_parser.specs.View.{token}
-use Rattle.derivation_text.specs.Forms.{IsBalanced, at_end, opens, closes, neither, Argument, by_name, enclosed, IsForm}
+use Rattle.derivation_text.specs.Forms.{IsBalanced, at_end, opens, closes, neither, Argument, by_name, enclosed, IsForm, IsArgument, argument_tokens, further_arguments, arguments_tokens, APPLY, GIVES, is_name, AreNames, further_names, names_tokens}
+use Rattle.derivation_text.specs.Valid.{tree_named, no_last, applied, given_out, IsLast, IsKnown, IsKnownArgument}
+use Rattle.derivation_text.specs.Found.{is_name_token, with_first}
+use Rattle.std.specs.Str.{bytes_eq}
+use Rattle.rule_schemes.specs.Derivation.{Derivation}
+use Rattle.derivation_text.proofs.CitedLemmas.{if_some, if_true, with_some, comma_is}
 use Rattle.derivation_text.specs.Ending as spec
-use Rattle.derivation_text.specs.Ending.{Closes, HasNoClosing, Turns, IsFront, HasNoFront}
+use Rattle.derivation_text.specs.Ending.{Closes, HasNoClosing, Turns, IsFront, HasNoFront, IsRest, HasNoRest, IsArguments, HasNoArguments, HasNoLast}
 use Rattle.derivation_text.specs.declared.derivs.Named.{Named}
-use Rattle.derivation_text.proofs.NodeLemmas.{heads, tails}
+use Rattle.derivation_text.proofs.NodeLemmas.{heads, tails, name_is_word}
 
 -- at the end of the further names
 pub further_end : (known : List Named) (names : List (List ℕ)) (rest : List Token) → length rest < 2
@@ -176,3 +181,200 @@ front_enclosed known ts form after found is_form =
       is_argument = (is_form, found.balanced);
       is_known = tt;
     }
+
+pub front_once : (known : List Named) (ts : List Read) (a b : Argument) (r s : List Read) → IsFront known ts a r → IsFront known ts b s → (a ≡ b) × (r ≡ s)
+front_once known ts (by_name w) (by_name v) r s h k =
+    let whole = sym h.tokens_are ∙ k.tokens_are in
+    (ap (λ (t : Read). by_name t.1) (heads whole), tails whole)
+front_once known ts (by_name w) (enclosed g) r s h k = absurd (kinds w (40 ∷ []) (heads (sym h.tokens_are ∙ k.tokens_are)))
+front_once known ts (enclosed f) (by_name v) r s h k = absurd (kinds v (40 ∷ []) (sym (heads (sym h.tokens_are ∙ k.tokens_are))))
+front_once known ts (enclosed f) (enclosed g) r s h k =
+    let whole = tails (sym h.tokens_are ∙ k.tokens_are) in
+    let once = balanced_once 0 f g r s (sym (append_assoc f (punctuation 41 ∷ []) r) ∙ whole ∙ append_assoc g (punctuation 41 ∷ []) s) h.is_argument.1 k.is_argument.1 in
+    (ap enclosed once.0, once.1)
+
+first_argument : (known : List Named) (ts : List Read) (t : Read) (all : List Argument) → IsRest known (t ∷ ts) all
+    → (a : Argument) × (more : List Argument) × (all ≡ a ∷ more) × (t ≡ punctuation 44) × IsFront known ts a (further_arguments more) × AllByRecursion IsArgument more × AllByRecursion (IsKnownArgument known) more
+first_argument known ts t [] h = absurd (let e : t ∷ ts ≡ [] = h.tokens_are in cc)
+first_argument known ts t (a ∷ more) h =
+    (a, more, refl, heads h.tokens_are, record { tokens_are = tails h.tokens_are; is_argument = h.are_arguments.0; is_known = h.are_known.0 }, h.are_arguments.1, h.are_known.1)
+
+rest_none : (known : List Named) → IsRest known [] []
+rest_none known = record { tokens_are = refl; are_arguments = tt; are_known = tt }
+
+-- at the end of the tokens
+pub rest_at_end : (known : List Named) (old : List Argument) → (more : List Argument) × (old ≡ old ++ more) × IsRest known [] more
+rest_at_end known old = ([], sym (append-nil old), rest_none known)
+
+pub no_comma : (known : List Named) (t : Read) (ts : List Read) → (t ≡ punctuation 44 → ⊥) → HasNoRest known (t ∷ ts)
+no_comma known t ts none all h = none (first_argument known ts t all h).3
+
+pub no_argument : (known : List Named) (t : Read) (ts : List Read) → HasNoFront known ts → HasNoRest known (t ∷ ts)
+no_argument known t ts none all h =
+    let first = first_argument known ts t all h in
+    none first.0 (further_arguments first.1) first.4
+
+no_more : (known : List Named) (t : Read) (ts rest : List Read) (a : Argument) → IsFront known ts a rest → HasNoRest known rest → HasNoRest known (t ∷ ts)
+no_more known t ts rest a front none all h =
+    let first = first_argument known ts t all h in
+    let once = front_once known ts first.0 a (further_arguments first.1) rest first.4 front in
+    none first.1 (record { tokens_are = sym once.1; are_arguments = first.5; are_known = first.6 })
+
+one_more : (known : List Named) (t : Read) (ts rest : List Read) (a : Argument) (more : List Argument) → t ≡ punctuation 44 → IsFront known ts a rest → IsRest known rest more → IsRest known (t ∷ ts) (a ∷ more)
+one_more known t ts rest a more comma front h =
+    let behind = front.tokens_are ∙ ap (λ (x : List Read). argument_tokens a ++ x) h.tokens_are in
+    record {
+      tokens_are = λ i. comma i ∷ behind i;
+      are_arguments = (front.is_argument, h.are_arguments);
+      are_known = (front.is_known, h.are_known);
+    }
+
+-- after one argument more
+pub rest_after : {E : Type 0} (known : List Named) (t : Read) (ts rest : List Read) (a : Argument) (old mid new : List Argument) (r : Result Bool E) → t ≡ punctuation 44 → IsFront known ts a rest
+    → mid ≡ old ++ a ∷ []
+    → IfOk r (λ good. MatchBool good ((more : List Argument) × (new ≡ mid ++ more) × IsRest known rest more) (HasNoRest known rest))
+    → IfOk r (λ good. MatchBool good ((more : List Argument) × (new ≡ old ++ more) × IsRest known (t ∷ ts) more) (HasNoRest known (t ∷ ts)))
+rest_after known t ts rest a old mid new (Ok true) comma front e h =
+    (a ∷ h.0, h.1 ∙ ap (λ (x : List Argument). x ++ h.0) e ∙ append_assoc old (a ∷ []) h.0, one_more known t ts rest a h.0 comma front h.2)
+rest_after known t ts rest a old mid new (Ok false) comma front e h = no_more known t ts rest a front h
+rest_after known t ts rest a old mid new (Err x) comma front e h = tt
+
+arguments_front : (known : List Named) (ts : List Read) (all : List Argument) → (ts ≡ [] → ⊥) → IsArguments known ts all
+    → (a : Argument) × (more : List Argument) × (all ≡ a ∷ more) × IsFront known ts a (further_arguments more) × IsRest known (further_arguments more) more
+arguments_front known ts [] some h = absurd (some h.tokens_are)
+arguments_front known ts (a ∷ more) some h =
+    (a, more, refl, record { tokens_are = h.tokens_are; is_argument = h.are_arguments.0; is_known = h.are_known.0 },
+    record { tokens_are = refl; are_arguments = h.are_arguments.1; are_known = h.are_known.1 })
+
+pub no_front_arguments : (known : List Named) (ts : List Read) → (ts ≡ [] → ⊥) → HasNoFront known ts → HasNoArguments known ts
+no_front_arguments known ts some none all h = (let first = arguments_front known ts all some h in none first.0 (further_arguments first.1) first.3)
+
+pub no_rest_arguments : (known : List Named) (ts rest : List Read) (a : Argument) → (ts ≡ [] → ⊥) → IsFront known ts a rest → HasNoRest known rest → HasNoArguments known ts
+no_rest_arguments known ts rest a some front none all h =
+    let first = arguments_front known ts all some h in
+    let once = front_once known ts first.0 a (further_arguments first.1) rest first.3 front in
+    none first.1 (subst (λ (x : List Read). IsRest known x first.1) once.1 first.4)
+
+pub front_arguments : (known : List Named) (ts rest : List Read) (a : Argument) (more all : List Argument) → IsFront known ts a rest → IsRest known rest more → all ≡ a ∷ more → IsArguments known ts all
+front_arguments known ts rest a more all front h e =
+    subst (IsArguments known ts) (sym e)
+    (record {
+      tokens_are = front.tokens_are ∙ ap (λ (x : List Read). argument_tokens a ++ x) h.tokens_are;
+      are_arguments = (front.is_argument, h.are_arguments);
+      are_known = (front.is_known, h.are_known);
+    })
+
+words_apart : APPLY ≡ GIVES → ⊥
+words_apart e = (let n : ◌≡◌ {A = ℕ} 97 103 = ap (λ (w : List ℕ). get_or w 0 0) e in absurd (omega (arith, n)))
+
+word_text : {w v : List ℕ} → word w ≡ word v → w ≡ v
+word_text e = ap (λ (t : Read). t.1) e
+
+pub no_applied : (known : List Named) (ts : List Read) → HasNoArguments known ts → HasNoLast known (spec.apply_word ∷ ts)
+no_applied known ts none no_last h = h
+no_applied known ts none (applied args) h =
+    none args (record { tokens_are = tails h.0.tokens_are; are_arguments = h.0.well_written; are_known = h.1 })
+no_applied known ts none (given_out names) h = words_apart (word_text (heads h.0.tokens_are))
+
+pub is_applied : (known : List Named) (ts : List Read) (args : List Argument) → IsArguments known ts args → IsLast known (spec.apply_word ∷ ts) (applied args)
+is_applied known ts args h =
+    (record { tokens_are = ap (λ (x : List Read). spec.apply_word ∷ x) h.tokens_are; well_written = h.are_arguments }, h.are_known)
+
+pub no_word : (known : List Named) (t : Read) (ts : List Read) → (t ≡ spec.apply_word → ⊥) → (t ≡ spec.gives_word → ⊥) → HasNoLast known (t ∷ ts)
+no_word known t ts a g no_last h = h
+no_word known t ts a g (applied args) h = a (heads h.0.tokens_are)
+no_word known t ts a g (given_out names) h = g (heads h.0.tokens_are)
+
+pub no_tokens : (known : List Named) → HasNoLast known []
+no_tokens known no_last h = h
+no_tokens known (applied args) h = (let e : [] ≡ spec.apply_word ∷ arguments_tokens args = h.0.tokens_are in cc)
+no_tokens known (given_out names) h = (let e : [] ≡ spec.gives_word ∷ names_tokens names = h.0.tokens_are in cc)
+
+-- names of earlier lines
+some_known : (known : List Named) (w : List ℕ) → is_some (tree_named known w) ≡ true → IsKnown known w
+some_known known w h none = true≢false (sym h ∙ ap is_some none)
+
+known_some : (known : List Named) (w : List ℕ) → IsKnown known w → is_some (tree_named known w) ≡ true
+known_some known w h = at (tree_named known w) h where
+    at : (o : Option Derivation) → (o ≡ None → ⊥) → is_some o ≡ true
+    at None n = absurd (n refl)
+    at (Some d) n = refl
+
+record Lists (known : List Named) (spelled : List (List ℕ) → List Read) (ts : List Read) (ws : List (List ℕ)) : Type 0 where
+  tokens_are : ts ≡ spelled ws
+  are_names : AreNames ws
+  are_known : AllByRecursion (IsKnown known) ws
+
+name_here : (known : List Named) (t : Read) (w : List ℕ) → spec.known_name known t ≡ Some w → (t ≡ word w) × IsTrue (is_name w) × IsKnown known w
+name_here known t w e =
+    let named = if_some (is_name_token t) (if is_some (tree_named known t.1) then Some t.1 else None) e in
+    let there = if_some (is_some (tree_named known t.1)) (Some t.1) named.1 in
+    let same : t.1 ≡ w = (let h : Some t.1 ≡ Some w = there.1 in cc) in
+    let name = name_is_word t named.0 in
+    (name.0 ∙ ap word same, subst (λ (x : List ℕ). IsTrue (is_name x)) same name.1, subst (IsKnown known) same (some_known known t.1 there.0))
+
+name_there : (known : List Named) (w : List ℕ) → IsTrue (is_name w) → IsKnown known w → spec.known_name known (word w) ≡ Some w
+name_there known w name there =
+    if_true (is_name w) (if is_some (tree_named known w) then Some w else None) None name ∙ if_true (is_some (tree_named known w)) (Some w) None (known_some known w there)
+
+further_listed : (known : List Named) (ts : List Read) (ws : List (List ℕ)) → spec.further_known known ts ≡ Some ws → Lists known further_names ts ws
+further_listed known [] ws e =
+    let none : [] ≡ ws = (let h : Some [] ≡ Some ws = e in cc) in
+    subst (Lists known further_names []) none (record { tokens_are = refl; are_names = tt; are_known = tt })
+further_listed known (c ∷ []) ws e = absurd (cc)
+further_listed known (c ∷ (t ∷ ts)) ws e =
+    let comma = if_some ((c.0 == 2) && bytes_eq c.1 (44 ∷ [])) (with_first (spec.known_name known t) (spec.further_known known ts)) e in
+    let parts = with_some (spec.known_name known t) (spec.further_known known ts) comma.1 in
+    let rest = further_listed known ts parts.1 parts.3 in
+    let here = name_here known t parts.0 parts.2 in
+    let ec = comma_is c comma.0 in
+    let et = here.0 in
+    subst (Lists known further_names (c ∷ (t ∷ ts))) (sym parts.4)
+    (record { tokens_are = λ i. ec i ∷ (et i ∷ rest.tokens_are i); are_names = (here.1, rest.are_names); are_known = (here.2, rest.are_known) })
+
+further_found : (known : List Named) (ws : List (List ℕ)) → AreNames ws → AllByRecursion (IsKnown known) ws → spec.further_known known (further_names ws) ≡ Some ws
+further_found known [] names there = refl
+further_found known (w ∷ ws) names there =
+    let first = name_there known w names.0 there.0 in
+    let rest = further_found known ws names.1 there.1 in
+    λ i. with_first (first i) (rest i)
+
+names_listed : (known : List Named) (ts : List Read) (ws : List (List ℕ)) → spec.known_names known ts ≡ Some ws → Lists known names_tokens ts ws
+names_listed known [] ws e =
+    let none : [] ≡ ws = (let h : Some [] ≡ Some ws = e in cc) in
+    subst (Lists known names_tokens []) none (record { tokens_are = refl; are_names = tt; are_known = tt })
+names_listed known (t ∷ ts) ws e =
+    let parts = with_some (spec.known_name known t) (spec.further_known known ts) e in
+    let rest = further_listed known ts parts.1 parts.3 in
+    let here = name_here known t parts.0 parts.2 in
+    let et = here.0 in
+    subst (Lists known names_tokens (t ∷ ts)) (sym parts.4)
+    (record { tokens_are = λ i. et i ∷ rest.tokens_are i; are_names = (here.1, rest.are_names); are_known = (here.2, rest.are_known) })
+
+names_found : (known : List Named) (ws : List (List ℕ)) → AreNames ws → AllByRecursion (IsKnown known) ws → spec.known_names known (names_tokens ws) ≡ Some ws
+names_found known [] names there = refl
+names_found known (w ∷ ws) names there =
+    let first = name_there known w names.0 there.0 in
+    let rest = further_found known ws names.1 there.1 in
+    λ i. with_first (first i) (rest i)
+
+pub is_given : (known : List Named) (ts : List Read) (ws : List (List ℕ)) → spec.known_names known ts ≡ Some ws → IsLast known (spec.gives_word ∷ ts) (given_out ws)
+is_given known ts ws e =
+    let listed = names_listed known ts ws e in
+    (record { tokens_are = ap (λ (x : List Read). spec.gives_word ∷ x) listed.tokens_are; well_written = listed.are_names }, listed.are_known)
+
+pub no_given : (known : List Named) (ts : List Read) → spec.known_names known ts ≡ None → HasNoLast known (spec.gives_word ∷ ts)
+no_given known ts none no_last h = h
+no_given known ts none (applied args) h = words_apart (word_text (sym (heads h.0.tokens_are)))
+no_given known ts none (given_out names) h =
+    let found = ap (spec.known_names known) (tails h.0.tokens_are) ∙ names_found known names h.0.well_written h.1 in
+    let clash : None ≡ Some names = sym none ∙ found in
+    cc
+
+pub false_case : (P : Type 0) {Q : Type 0} (b : Bool) → MatchBool b P Q → b ≡ false → Q
+false_case P true h e = absurd (true≢false e)
+false_case P false h e = h
+
+pub empty_list : {A B : Type 0} (f : A → B) (xs : List A) → map f xs ≡ [] → length xs ≡ 0
+empty_list f [] e = refl
+empty_list f (x ∷ xs) e = absurd (let h : f x ∷ map f xs ≡ [] = e in cc)

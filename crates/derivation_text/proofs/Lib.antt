@@ -11,3 +11,4 @@ pub mod RuleLemmas
 pub mod LineLemmas
 pub mod SplitLemmas
 pub mod EndingLemmas
+pub mod ReaderLemmas

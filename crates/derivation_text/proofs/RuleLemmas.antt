@@ -174,7 +174,7 @@ module _ (th : Theory) (bare : HasNoContexts th) where
       g ∙ ap (λ (x : Matching). with_premises x ps ds) (f ∙ ap (λ (x : Matching). record x { pairs = x.pairs ++ judgments r.conclusion v ∷ [] }) e)
       ∙ (λ i. record { sig = s i; metas = m i; knowns = []; root = o i; pairs = judgments r.conclusion v ∷ premise_pairs (p i) ds })
 
-  no_leaf : (so_far : IsSystemSoFar th) (r : ℕ) (v : JudgmentValue) (place : ℕ) → IsLeaf th r v place → ⊥
+  pub no_leaf : (so_far : IsSystemSoFar th) (r : ℕ) (v : JudgmentValue) (place : ℕ) → IsLeaf th r v place → ⊥
   no_leaf so_far r v place h =
       let at = found th.rules r so_far.rules h in
       let its = at.0 in

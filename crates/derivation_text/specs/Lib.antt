@@ -7,6 +7,7 @@ pub mod Inputs
 pub mod Lines
 pub mod Making
 pub mod Page
+pub mod Reader
 pub mod Splitting
 pub mod Text
 pub mod Valid

@@ -172,8 +172,9 @@ fn enclosed<'a>(
     alloc: Global,
     tokens: &'a [Token<'a>],
 ) -> Result<Option<Argued<'a>>, NoMemory>
-    ensures { (known : List OfNamed) → IfOk result (λ found. MatchOption found (HasNoFront known (punctuation 40 ∷ map token tokens.now))
+    ensures front { (known : List OfNamed) → IfOk result (λ found. MatchOption found (HasNoFront known (punctuation 40 ∷ map token tokens.now))
         (λ p. IsFront known (punctuation 40 ∷ map token tokens.now) (argument p.argument) (map token p.rest.now))) }
+    ensures shorter { IfOk result (λ found. IfSome found (λ p. length p.rest.now ≤ length tokens.now)) }
 {
     let place = match closing(tokens) {
         Some(place) => place,
@@ -200,8 +201,9 @@ fn named<'a>(
     rest: &'a [Token<'a>],
 ) -> Result<Option<Argued<'a>>, NoMemory>
     requires { (token first.now ≡ punctuation 40) → ⊥ }
-    ensures { IfOk result (λ found. MatchOption found (HasNoFront known.now (token first.now ∷ map token rest.now))
+    ensures front { IfOk result (λ found. MatchOption found (HasNoFront known.now (token first.now ∷ map token rest.now))
         (λ p. IsFront known.now (token first.now ∷ map token rest.now) (argument p.argument) (map token p.rest.now))) }
+    ensures shorter { IfOk result (λ found. IfSome found (λ p. length p.rest.now ≤ length rest.now)) }
 {
     match known_name(alloc, known, first)? {
         Some(name) => Ok(Some(Argued {
@@ -212,27 +214,40 @@ fn named<'a>(
     }
 }
 
+fn front_from<'a>(
+    alloc: Global,
+    known: &[Named],
+    first: &Token<'_>,
+    rest: &'a [Token<'a>],
+) -> Result<Option<Argued<'a>>, NoMemory>
+    ensures front { IfOk result (λ found. MatchOption found (HasNoFront known.now (token first.now ∷ map token rest.now))
+        (λ p. IsFront known.now (token first.now ∷ map token rest.now) (argument p.argument) (map token p.rest.now))) }
+    ensures shorter { IfOk result (λ found. IfSome found (λ p. length p.rest.now ≤ length rest.now)) }
+{
+    if is_punctuation(b'(', first) {
+        return enclosed(alloc, rest);
+    }
+    named(alloc, known, first, rest)
+}
+
 /// The first argument of the tokens, and what follows it.
 fn front<'a>(
     alloc: Global,
     known: &[Named],
     tokens: &'a [Token<'a>],
 ) -> Result<Option<Argued<'a>>, NoMemory>
-    ensures { IfOk result (λ found. MatchOption found (HasNoFront known.now (map token tokens.now))
+    ensures front { IfOk result (λ found. MatchOption found (HasNoFront known.now (map token tokens.now))
         (λ p. IsFront known.now (map token tokens.now) (argument p.argument) (map token p.rest.now))) }
+    ensures shorter { IfOk result (λ found. IfSome found (λ p. length p.rest.now ≤ length tokens.now)) }
 {
     match tokens {
         [] => Ok(None),
-        [first, rest @ ..] => {
-            if is_punctuation(b'(', first) {
-                return enclosed(alloc, rest);
-            }
-            named(alloc, known, first, rest)
-        }
+        [first, rest @ ..] => front_from(alloc, known, first, rest),
     }
 }
 
 /// Adds further arguments, each after a comma. False where the tokens are none.
+#[cycle(further)]
 fn further<'a>(
     alloc: Global,
     known: &[Named],
@@ -243,21 +258,35 @@ fn further<'a>(
         ((more : List spec.Given) × (map argument args.new ≡ map argument args.old ++ more) × IsRest known.now (map token tokens.now) more)
         (HasNoRest known.now (map token tokens.now))) }
 {
-    let mut rest = tokens;
-    while let [comma, more @ ..] = rest {
-        if !is_punctuation(b',', comma) {
-            return Ok(false);
-        }
-        match front(alloc, known, more)? {
-            Some(found) => {
-                let Argued { argument, rest: after } = found;
-                args.push(argument)?;
-                rest = after;
-            }
-            None => return Ok(false),
-        }
+    match tokens {
+        [] => Ok(true),
+        [comma, rest @ ..] => after_comma(alloc, known, comma, rest, args),
     }
-    Ok(true)
+}
+
+#[cycle(further)]
+fn after_comma<'a>(
+    alloc: Global,
+    known: &[Named],
+    comma: &Token<'_>,
+    tokens: &'a [Token<'a>],
+    args: &mut Items<Argument>,
+) -> Result<bool, NoMemory>
+    ensures { IfOk result (λ good. MatchBool good
+        ((more : List spec.Given) × (map argument args.new ≡ map argument args.old ++ more) × IsRest known.now (token comma.now ∷ map token tokens.now) more)
+        (HasNoRest known.now (token comma.now ∷ map token tokens.now))) }
+{
+    if !is_punctuation(b',', comma) {
+        return Ok(false);
+    }
+    match front(alloc, known, tokens)? {
+        Some(found) => {
+            let Argued { argument, rest } = found;
+            args.push(argument)?;
+            further(alloc, known, rest, args)
+        }
+        None => Ok(false),
+    }
 }
 
 /// The arguments with commas between them.
