@@ -264,10 +264,10 @@ front_arguments known ts rest a more all front h e =
       are_known = (front.is_known, h.are_known);
     })
 
-words_apart : APPLY ≡ GIVES → ⊥
+pub words_apart : APPLY ≡ GIVES → ⊥
 words_apart e = (let n : ◌≡◌ {A = ℕ} 97 103 = ap (λ (w : List ℕ). get_or w 0 0) e in absurd (omega (arith, n)))
 
-word_text : {w v : List ℕ} → word w ≡ word v → w ≡ v
+pub word_text : {w v : List ℕ} → word w ≡ word v → w ≡ v
 word_text e = ap (λ (t : Read). t.1) e
 
 pub no_applied : (known : List Named) (ts : List Read) → HasNoArguments known ts → HasNoLast known (spec.apply_word ∷ ts)

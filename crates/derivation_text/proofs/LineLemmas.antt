@@ -130,7 +130,7 @@ scheme_once th ts s t a b =
 pub value_once : (th : Theory) (ts : List Token) (v w : JudgmentValue) → HasValue th ts v → HasValue th ts w → v ≡ w
 value_once th ts v w a b = a.value ∙ ap (judgment_at nothing_around.value) (scheme_once th ts a.scheme b.scheme a.reads b.reads) ∙ sym b.value
 
-some_once : {A : Type 0} {a b : A} {o : Option A} → o ≡ Some a → o ≡ Some b → a ≡ b
+pub some_once : {A : Type 0} {a b : A} {o : Option A} → o ≡ Some a → o ≡ Some b → a ≡ b
 some_once {a = a} {b = b} e f = (let k : Some a ≡ Some b = sym e ∙ f in cc)
 
 pub no_parts_tree : (th : Theory) (known : List Named) (form : List Token) (r : List ℕ) (rest : List Token) (number : ℕ) (v : JudgmentValue) (ds : List Derivation) → HasValue th form v

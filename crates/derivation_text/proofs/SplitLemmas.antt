@@ -85,8 +85,5 @@ first_is ts a b d some cut =
     ∙ whole_line n first.0 first.1 b first.3 on_line.1 cut.stops
     ∙ ap (λ (x : List Token). (n, map token x) ∷ text_lines (map token_view b)) (sym first.2))
 
-pub first_shorter : (ts a b : List Token) (d : Token) → 0 < length ts → IsLineCut (get_or ts 0 d).line ts a b → length b < length ts
-first_shorter ts a b d some cut =
-    let first = first_of ts a b d some cut in
-    let size : length ts ≡ length (first.0 ∷ first.1) + length b = ap length (cut.parts ∙ ap (λ (x : List Token). x ++ b) first.2) ∙ length-append (first.0 ∷ first.1) b in
-    omega arith
+pub first_some : (ts a b : List Token) (d : Token) → 0 < length ts → IsLineCut (get_or ts 0 d).line ts a b → 0 < length a
+first_some ts a b d some cut = (let first = first_of ts a b d some cut in let size = ap length first.2 in omega arith)

@@ -3,6 +3,7 @@ pub mod Contents
 pub mod Ending
 pub mod Forms
 pub mod Found
+pub mod Given
 pub mod Inputs
 pub mod Lines
 pub mod Making

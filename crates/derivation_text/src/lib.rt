@@ -6,6 +6,7 @@ mod context;
 mod derivation;
 mod derivs;
 mod ending;
+mod inputs;
 mod judgment;
 mod line;
 mod making;

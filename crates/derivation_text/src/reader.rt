@@ -68,17 +68,15 @@ fn read_lines<'a>(
         (λ d. AreValid (theory sys.now) nothing_around [] (text_lines (map token_view tokens.now)) (contents d) × AllDerive (theory sys.now) d.named)) }
 {
     let mut named = Items::new(alloc);
-    let mut rest = tokens;
-    while rest.len() != 0 {
-        let (line, more) = first_line(rest);
+    let mut at = 0usize;
+    while at < tokens.len() {
+        let (line, more) = first_line(&tokens[at..]);
         match look_at(alloc, sys, named.as_slice(), line)? {
             Seen::Wrong => return Ok(None),
-            Seen::Tree(one) => {
-                named.push(one)?;
-                rest = more;
-            }
+            Seen::Tree(one) => named.push(one)?,
             Seen::End(ending) => return Ok(ended(named, ending, more)),
         }
+        at += line.len();
     }
     Ok(Some(Derivs {
         named,

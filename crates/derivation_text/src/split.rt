@@ -1,5 +1,5 @@
 //! The lines of a text.
-ghost use Rattle.std.specs.Prelude.{◌≡◌, ◌<◌, length, map};
+ghost use Rattle.std.specs.Prelude.{◌≡◌, ◌<◌, ◌++◌, length, map};
 ghost use Rattle.proof_lexer.specs.View.{token_view};
 ghost use Rattle.notation_parser.specs.View.{token};
 ghost use Rattle.derivation_text.specs.Splitting.{IsLineCut, IsFirstLine};
@@ -22,7 +22,8 @@ fn cut_line<'a>(line: u32, tokens: &'a [Token<'a>]) -> (&'a [Token<'a>], &'a [To
 pub fn first_line<'a>(tokens: &'a [Token<'a>]) -> (&'a [Token<'a>], &'a [Token<'a>])
     requires { 0 < length tokens.now }
     ensures lines { IsFirstLine (map token_view tokens.now) (map token result.0.now) (map token_view result.1.now) }
-    ensures shorter { length result.1.now < length tokens.now }
+    ensures parts { tokens.now ≡ result.0.now ++ result.1.now }
+    ensures some { 0 < length result.0.now }
 {
     let first = &tokens[0];
     cut_line(first.line, tokens)

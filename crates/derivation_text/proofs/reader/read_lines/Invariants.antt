@@ -1,4 +1,4 @@
-use Rattle.std.proofs.Common.{◌↔◌, [], map, length}
+use Rattle.std.proofs.Common.{◌↔◌, ◌≤◌, ◌-◌, [], map, drop, length}
 use Rattle.proof_lexer.specs.View.{token_view}
 use Rattle.rule_schemes.specs.View.{theory}
 use Rattle.derivation_text.specs.Found.{AllDerive}
@@ -7,9 +7,10 @@ use Rattle.derivation_text.specs.Valid.{nothing_around, AreValid, Contents}
 use Rattle.derivation_text.proofs.ReaderLemmas.{Reaches}
 use Rattle.derivation_text.proofs.reader.read_lines.Given as goal
 
-abbrev pub invariant-loop-rest : goal.invariant-loop-rest
-invariant-loop-rest l =
-    AllDerive (theory l.sys) l.named × Reaches (theory l.sys) (text_lines (map token_view l.tokens)) l.named (text_lines (map token_view l.rest))
+abbrev pub invariant-loop-at : goal.invariant-loop-at
+invariant-loop-at l =
+    (l.at ≤ length l.tokens) × AllDerive (theory l.sys) l.named
+    × Reaches (theory l.sys) (text_lines (map token_view l.tokens)) l.named (text_lines (map token_view (drop l.at l.tokens)))
 
-abbrev pub decreases-loop-rest : goal.decreases-loop-rest
-decreases-loop-rest l = length l.rest
+abbrev pub decreases-loop-at : goal.decreases-loop-at
+decreases-loop-at l = length l.tokens - l.at
