@@ -12,3 +12,4 @@ pub mod LineLemmas
 pub mod SplitLemmas
 pub mod EndingLemmas
 pub mod ReaderLemmas
+pub mod InputLemmas

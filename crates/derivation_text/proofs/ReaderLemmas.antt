@@ -1,6 +1,14 @@
 -- The lines of a text, one after another.
-use Rattle.std.proofs.Common.{◌≡◌, ◌≢◌, ◌↔◌, ◌<◌, ◌+◌, ℕ, Bool, true, false, IsTrue, List, [], ◌∷◌, ◌++◌, length, map, refl, ap, ◌∙◌, sym, subst, arith, Some, None, slice_get, inl, inr, true≢false, zero, suc}
-use Rattle.std.specs.Prelude.{Option, ◌⊎◌, not}
+use Rattle.std.proofs.Common.{◌≡◌, ◌≢◌, ◌↔◌, ◌<◌, ◌≤◌, ◌+◌, ◌-◌, ℕ, take, drop, length-drop, length-append, length-take-le, append_assoc, Bool, true, false, IsTrue, List, [], ◌∷◌, ◌++◌, length, map, refl, ap, ◌∙◌, sym, subst, arith, Some, None, slice_get, inl, inr, true≢false, zero, suc}
+use Rattle.std.specs.Prelude.{Option, ◌⊎◌, not, MatchOption}
+use Rattle.std.proofs.Math.Seq.{drop-append_seam}
+use Rattle.std.proofs.lemmas.List.{take_all, take-append-drop}
+use Rattle.proof_lexer.specs.View.{token_view}
+use Rattle.proof_lexer.specs.declared.token.Token.{Token as Lexed}
+use Rattle.derivation_text.specs.Splitting.{IsFirstLine}
+use Rattle.derivation_text.specs.Reader.{IsSeen}
+use Rattle.derivation_text.specs.declared.reader.Seen.{Seen}
+use Rattle.derivation_text.proofs.SplitLemmas.{begins}
 use Rattle.std.specs.List.{AllByRecursion, AllZip}
 use Rattle.binding_terms.specs.declared.grammar.Cat.{Cat}
 use Rattle.sy_base.specs.Tokens.{PlainToken, AreTokens}
@@ -147,3 +155,40 @@ pub lines_of_text : (th : Theory) → HasNoContexts th → TokensAreUnique → (
 lines_of_text th bare unique source tokens around c are text =
     let at = lines_of th bare (text_lines text.tokens) text.lines.rest around c text.lines.begins text.lines.valid in
     (at.0, subst (λ (ts : List PlainToken). AreValid th nothing_around [] (text_lines ts) c) (unique source text.tokens tokens text.are_tokens are) at.1)
+
+pub option_case : {A : Type 0} {P P2 : Type 0} {Q Q2 : A → Type 0} (o : Option A) → (P → P2) → ((a : A) → Q a → Q2 a) → MatchOption o P Q → MatchOption o P2 Q2
+option_case None f g h = f h
+option_case (Some a) f g h = g a h
+
+rest_is : (tokens : List Lexed) (at : ℕ) → take (length tokens - at) (drop at tokens) ≡ drop at tokens
+rest_is tokens at = take_all (length tokens - at) (drop at tokens) (omega (arith, length-drop at tokens))
+
+pub lines_at : (tokens : List Lexed) (at : ℕ) (line : List Token) (more : List Lexed) → IsFirstLine (map token_view (take (length tokens - at) (drop at tokens))) line (map token_view more)
+    → (n : ℕ) × (text_lines (map token_view (drop at tokens)) ≡ (n, line) ∷ text_lines (map token_view more))
+lines_at tokens at line more h = (h.0, ap (λ (ts : List Lexed). text_lines (map token_view ts)) (sym (rest_is tokens at)) ∙ h.1)
+
+pub next_within : (tokens line more : List Lexed) (at : ℕ) → at ≤ length tokens → take (length tokens - at) (drop at tokens) ≡ line ++ more → at + length line ≤ length tokens
+next_within tokens line more at within e =
+    let size : length (drop at tokens) ≡ length line + length more = ap length (sym (rest_is tokens at) ∙ e) ∙ length-append line more in
+    omega (arith, length-drop at tokens)
+
+pub next_at : (tokens line more : List Lexed) (at : ℕ) → at ≤ length tokens → take (length tokens - at) (drop at tokens) ≡ line ++ more → drop (at + length line) tokens ≡ more
+next_at tokens line more at within e =
+    let whole : tokens ≡ (take at tokens ++ line) ++ more =
+    sym (take-append-drop at tokens) ∙ ap (λ (ts : List Lexed). take at tokens ++ ts) (sym (rest_is tokens at) ∙ e) ∙ sym (append_assoc (take at tokens) line more) in
+    let size : at + length line ≡ length (take at tokens ++ line) = omega (arith, length-append (take at tokens) line, length-take-le at tokens within) in
+    ap (λ (n : ℕ). drop n tokens) size ∙ ap (drop (length (take at tokens ++ line))) whole ∙ drop-append_seam (take at tokens ++ line) more
+
+pub none_lines : (ts : List Lexed) → length ts ≡ 0 → text_lines (map token_view ts) ≡ []
+none_lines [] e = refl
+none_lines (t ∷ ts) e = absurd (omega arith)
+
+pub some_lines : (ts : List Lexed) → (length ts ≡ 0 → ⊥) → text_lines (map token_view ts) ≡ [] → ⊥
+some_lines [] some e = some refl
+some_lines (t ∷ ts) some e =
+    let first = begins (token_view t) (map token_view ts) in
+    let clash : [] ≡ first.line ∷ first.rest = sym e ∙ first.lines_are in
+    cc
+
+pub seen_as : (th : Theory) (known slice : List Named) (ts : List Token) (s seen : Seen) → slice ≡ known → IsSeen th slice ts s → s ≡ seen → IsSeen th known ts seen
+seen_as th known slice ts s seen e h f = subst (IsSeen th known ts) f (subst (λ (ks : List Named). IsSeen th ks ts s) e h)

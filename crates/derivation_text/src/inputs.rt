@@ -46,6 +46,7 @@ fn given_trees(
     Ok(Some(trees))
 }
 
+#[tactic(auto, using(derivation_check::proofs::Sums::done_sizes))]
 fn size_all(trees: &[Deriv]) -> u64
     ensures { result ≡ min (sizes (subtrees_of trees.now)) (2 ^ 64 - 1) }
 {

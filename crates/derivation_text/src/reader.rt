@@ -67,6 +67,7 @@ fn read_lines<'a>(
     ensures { IfOk result (λ found. MatchOption found (HasNoContents (theory sys.now) (map token_view tokens.now))
         (λ d. AreValid (theory sys.now) nothing_around [] (text_lines (map token_view tokens.now)) (contents d) × AllDerive (theory sys.now) d.named)) }
 {
+    sys.always_system();
     let mut named = Items::new(alloc);
     let mut at = 0usize;
     while at < tokens.len() {
