@@ -44,7 +44,10 @@ module _ (th : Theory) (st : Theorem) (c : Contents) where
 
   stand_to : (is : List StatementInput) (args : List Argument) (ds : List Derivation) → AllByRecursion IsDerivation is → length args ≡ length is → given_trees c.named args ≡ Some ds
       → StandForAll th st nothing_around c is args (map derived ds)
-  stand_to [] [] ds all e h = subst (λ (x : List Derivation). StandForAll th st nothing_around c [] [] (map derived x)) (let k : Some [] ≡ Some ds = h in cc) tt
+  stand_to [] [] ds all e h =
+      let whole : Some [] ≡ Some ds = h in
+      let none : [] ≡ ds = cc in
+      subst (λ (x : List Derivation). StandForAll th st nothing_around c [] [] (map derived x)) none tt
   stand_to [] (a ∷ args) ds all e h = absurd (omega arith)
   stand_to (i ∷ is) [] ds all e h = absurd (omega arith)
   stand_to (syntax_input m ∷ is) (a ∷ args) ds all e h = absurd all.0

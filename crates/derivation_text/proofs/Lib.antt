@@ -13,3 +13,4 @@ pub mod SplitLemmas
 pub mod EndingLemmas
 pub mod ReaderLemmas
 pub mod InputLemmas
+pub mod OnlyOne

@@ -5,6 +5,7 @@ pub mod Forms
 pub mod Found
 pub mod Given
 pub mod Inputs
+pub mod Laws
 pub mod Lines
 pub mod Making
 pub mod Page

@@ -1,6 +1,6 @@
 use Rattle.std.proofs.Common.{◌≡◌, ◌∙◌, List, map, sym, subst}
 use Rattle.sy_base.specs.Tokens.{AreTokens, not_utf8, open_comment, open_quote}
-use Rattle.proof_lexer.specs.View.{token_view}
+use Rattle.proof_lexer.specs.View.{token_view, IsRefusedFor}
 use Rattle.proof_lexer.specs.declared.token.Token.{Token as Lexed}
 use Rattle.rule_schemes.specs.View.{theory}
 use Rattle.derivation_text.specs.Contents.{contents}
@@ -20,10 +20,10 @@ returns-in-Ok c =
     c.read_lines.ensures
 
 pub returns-in-Err-NotUtf8 : goal.returns-in-Err-NotUtf8
-returns-in-Err-NotUtf8 c around given text = c.tokens_are_unique.ensures.apart c.args.source.now text.tokens (not_utf8 c.in-Err-NotUtf8.field-0-0) text.are_tokens c.in-Err-NotUtf8.ensures.refused
+returns-in-Err-NotUtf8 c around given text = c.tokens_are_unique.ensures.apart c.args.source.now text.tokens (not_utf8 c.in-Err-NotUtf8.field-0-0) text.are_tokens (subst (IsRefusedFor c.args.source.now) c.in-Err-NotUtf8.field-0-is c.in-Err-NotUtf8.ensures.refused)
 
 pub returns-in-Err-OpenComment : goal.returns-in-Err-OpenComment
-returns-in-Err-OpenComment c around given text = c.tokens_are_unique.ensures.apart c.args.source.now text.tokens (open_comment c.in-Err-OpenComment.field-0-0) text.are_tokens c.in-Err-OpenComment.ensures.refused
+returns-in-Err-OpenComment c around given text = c.tokens_are_unique.ensures.apart c.args.source.now text.tokens (open_comment c.in-Err-OpenComment.field-0-0) text.are_tokens (subst (IsRefusedFor c.args.source.now) c.in-Err-OpenComment.field-0-is c.in-Err-OpenComment.ensures.refused)
 
 pub returns-in-Err-OpenQuote : goal.returns-in-Err-OpenQuote
-returns-in-Err-OpenQuote c around given text = c.tokens_are_unique.ensures.apart c.args.source.now text.tokens (open_quote c.in-Err-OpenQuote.field-0-0) text.are_tokens c.in-Err-OpenQuote.ensures.refused
+returns-in-Err-OpenQuote c around given text = c.tokens_are_unique.ensures.apart c.args.source.now text.tokens (open_quote c.in-Err-OpenQuote.field-0-0) text.are_tokens (subst (IsRefusedFor c.args.source.now) c.in-Err-OpenQuote.field-0-is c.in-Err-OpenQuote.ensures.refused)
