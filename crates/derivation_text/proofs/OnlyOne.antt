@@ -3,7 +3,7 @@ use Rattle.std.proofs.Common.{◌≡◌, ℕ, List, [], ◌∷◌, ◌++◌, ref
 use Rattle.std.specs.Prelude.{◌⊎◌}
 use Rattle.std.specs.List.{AllByRecursion}
 use Rattle.sy_base.specs.Tokens.{PlainToken}
-use Rattle.proof_lexer.proofs.UniqueLemmas as lexed
+use Rattle.proof_lexer.proofs.UniqueLemmas.{tokens_unique}
 use Rattle.rule_schemes.specs.Rules.{Theory, IsSystemSoFar}
 use Rattle.rule_schemes.specs.Reading.{Token, word, punctuation}
 use Rattle.rule_schemes.specs.Statement.{Theorem, InputTree}
@@ -96,8 +96,8 @@ module _ (th : Theory) (bare : HasNoContexts th) (so_far : IsSystemSoFar th) whe
 
 pub one_text : TextsAreUnique
 one_text th source around other c d so_far bare h k =
-    let first = lines_of_text th bare lexed.tokens_are_unique source h.tokens around c h.are_tokens h in
-    let second = lines_of_text th bare lexed.tokens_are_unique source h.tokens other d h.are_tokens k in
+    let first = lines_of_text th bare tokens_unique source h.tokens around c h.are_tokens h in
+    let second = lines_of_text th bare tokens_unique source h.tokens other d h.are_tokens k in
     (first.0 ∙ sym second.0, valid_once th bare so_far (text_lines h.tokens) [] c d first.1 second.1)
 
 pub text_gives : TextGivesInputs
@@ -110,5 +110,5 @@ text_gives th st source around c xs so_far bare text =
 pub one_list : InputsAreUnique
 one_list th st source xs ys so_far bare takes h k =
     let other = (text_gives th st source h.around h.contents ys so_far bare h.text).1 k in
-    let nothing = (lines_of_text th bare lexed.tokens_are_unique source h.text.tokens h.around h.contents h.text.are_tokens h.text).0 in
+    let nothing = (lines_of_text th bare tokens_unique source h.text.tokens h.around h.contents h.text.are_tokens h.text).0 in
     one_inputs th st h.contents xs ys takes (subst (λ (x : Around). GivesInputs th st x h.contents xs) nothing h.inputs) (subst (λ (x : Around). GivesInputs th st x h.contents ys) nothing other)

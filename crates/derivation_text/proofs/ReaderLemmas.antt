@@ -46,7 +46,7 @@ not_own : (w : List ℕ) → is_among (CONTEXT ∷ APPLY ∷ GIVES ∷ []) w ≡
 unfolding is_own_name
 not_own w among h = absurd (true≢false (sym (and_right (is_name w) (not (is_among (CONTEXT ∷ APPLY ∷ GIVES ∷ []) w)) h) ∙ ap not among))
 
-names_not_last : (th : Theory) (known : List Named) (ts : List Token) (one : Named) (last : Last) → NamesTree th nothing_around known ts one → IsLast known ts last → ⊥
+pub names_not_last : (th : Theory) (known : List Named) (ts : List Token) (one : Named) (last : Last) → NamesTree th nothing_around known ts one → IsLast known ts last → ⊥
 names_not_last th known ts one no_last h k = k
 names_not_last th known ts one (applied args) h k =
     not_own APPLY refl (subst (λ (w : List ℕ). IsTrue (is_own_name w)) (ap (λ (t : Token). t.1) (heads (sym h.says.tokens_are ∙ k.0.tokens_are))) h.says.well_written.0)
