@@ -68,9 +68,11 @@ closes_after : (n m : ℕ) (t : Read) (back more rest : List Read) → Turns n t
     → (left : List Read) × (more ≡ t ∷ left) × Closes m back left rest
 closes_after n m t back [] rest turns h = absurd (not_first n m t turns (heads h.tokens_are) h.balanced)
 closes_after n m t back (u ∷ more) rest turns h =
-    let same : t ≡ u = heads h.tokens_are in
-    (more, ap (λ (x : Read). x ∷ more) (sym same),
-    record { tokens_are = tails h.tokens_are; balanced = after_token n m t more turns (subst (λ (x : Read). IsBalanced n (x ∷ more)) (sym same) h.balanced) })
+    let same : t ≡ u = heads h.tokens_are in (
+      more,
+      ap (λ (x : Read). x ∷ more) (sym same),
+      record { tokens_are = tails h.tokens_are; balanced = after_token n m t more turns (subst (λ (x : Read). IsBalanced n (x ∷ more)) (sym same) h.balanced) },
+    )
 
 closes_before : (n m : ℕ) (t : Read) (back more rest : List Read) → Turns n t m → Closes m back more rest → Closes n (t ∷ back) (t ∷ more) rest
 closes_before n m t back more rest turns h =
@@ -83,11 +85,11 @@ passes_one : (whole front back : List Read) (t : Read) (n m : ℕ) → Passes wh
 passes_one whole front back t n m p turns =
     record {
       forth = λ form rest h.
-      (let first = p.forth form rest h in
-      let next = closes_after n m t back first.0 rest turns first.2 in
-      (next.0, first.1 ∙ ap (λ (x : List Read). front ++ x) next.1 ∙ sym (joined front next.0 t), next.2));
+          (let first = p.forth form rest h in
+          let next = closes_after n m t back first.0 rest turns first.2 in
+          (next.0, first.1 ∙ ap (λ (x : List Read). front ++ x) next.1 ∙ sym (joined front next.0 t), next.2));
       back_from = λ more rest h.
-      subst (λ (x : List Read). Closes 0 whole x rest) (sym (joined front more t)) (p.back_from (t ∷ more) rest (closes_before n m t back more rest turns h));
+          subst (λ (x : List Read). Closes 0 whole x rest) (sym (joined front more t)) (p.back_from (t ∷ more) rest (closes_before n m t back more rest turns h));
     }
 
 split_drop : (tokens : List Token) (i : ℕ) (d : Token) → i < length tokens → map token (drop i tokens) ≡ token (get_or tokens i d) ∷ map token (drop (i + 1) tokens)
@@ -107,9 +109,9 @@ passes_next tokens i d whole n m within p turns =
 
 drop_past : (tokens : List Token) (i : ℕ) → length tokens ≤ i → drop i tokens ≡ []
 drop_past tokens i past = empty_list (drop i tokens) (omega (arith, length-drop i tokens)) where
-    empty_list : (xs : List Token) → length xs ≡ 0 → xs ≡ []
-    empty_list [] e = refl
-    empty_list (x ∷ xs) e = absurd (omega arith)
+  empty_list : (xs : List Token) → length xs ≡ 0 → xs ≡ []
+  empty_list [] e = refl
+  empty_list (x ∷ xs) e = absurd (omega arith)
 
 pub passes_end : (whole front : List Read) (n : ℕ) → Passes whole front [] n → HasNoClosing whole
 passes_end whole front n p form rest h =
@@ -242,9 +244,13 @@ rest_after known t ts rest a old mid new (Err x) comma front e h = tt
 arguments_front : (known : List Named) (ts : List Read) (all : List Argument) → (ts ≡ [] → ⊥) → IsArguments known ts all
     → (a : Argument) × (more : List Argument) × (all ≡ a ∷ more) × IsFront known ts a (further_arguments more) × IsRest known (further_arguments more) more
 arguments_front known ts [] some h = absurd (some h.tokens_are)
-arguments_front known ts (a ∷ more) some h =
-    (a, more, refl, record { tokens_are = h.tokens_are; is_argument = h.are_arguments.0; is_known = h.are_known.0 },
-    record { tokens_are = refl; are_arguments = h.are_arguments.1; are_known = h.are_known.1 })
+arguments_front known ts (a ∷ more) some h = (
+  a,
+  more,
+  refl,
+  record { tokens_are = h.tokens_are; is_argument = h.are_arguments.0; is_known = h.are_known.0 },
+  record { tokens_are = refl; are_arguments = h.are_arguments.1; are_known = h.are_known.1 },
+)
 
 pub no_front_arguments : (known : List Named) (ts : List Read) → (ts ≡ [] → ⊥) → HasNoFront known ts → HasNoArguments known ts
 no_front_arguments known ts some none all h = (let first = arguments_front known ts all some h in none first.0 (further_arguments first.1) first.3)
@@ -296,9 +302,9 @@ some_known known w h none = true≢false (sym h ∙ ap is_some none)
 
 known_some : (known : List Named) (w : List ℕ) → IsKnown known w → is_some (tree_named known w) ≡ true
 known_some known w h = at (tree_named known w) h where
-    at : (o : Option Derivation) → (o ≡ None → ⊥) → is_some o ≡ true
-    at None n = absurd (n refl)
-    at (Some d) n = refl
+  at : (o : Option Derivation) → (o ≡ None → ⊥) → is_some o ≡ true
+  at None n = absurd (n refl)
+  at (Some d) n = refl
 
 record Lists (known : List Named) (spelled : List (List ℕ) → List Read) (ts : List Read) (ws : List (List ℕ)) : Type 0 where
   tokens_are : ts ≡ spelled ws

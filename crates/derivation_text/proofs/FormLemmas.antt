@@ -68,11 +68,12 @@ module _ (sig : Signature) (plain : IsPlainSignature sig) where
     items_read all_read none bs free = tt
     items_read (terminal h r) none bs free = items_read r none bs free
     items_read (binder h r) none bs free = items_read r none bs free
-    items_read {vars = vars} {own = own} (slot {c = c} {binds = binds} {s = s} split some t r) none bs free =
-        (refl,
-        subst (λ (ns : List ℕ). IsTerm sig (bound bs ns ++ []) c.0 (instance_of empty (0 + length ns) s)) (sym free.0)
-        (term_reads t (ap (λ (ns : List ℕ). slot_variables own ns ++ vars) free.0 ∙ none)),
-        items_read r none bs free.1)
+    items_read {vars = vars} {own = own} (slot {c = c} {binds = binds} {s = s} split some t r) none bs free = (
+      refl,
+      subst (λ (ns : List ℕ). IsTerm sig (bound bs ns ++ []) c.0 (instance_of empty (0 + length ns) s)) (sym free.0)
+          (term_reads t (ap (λ (ns : List ℕ). slot_variables own ns ++ vars) free.0 ∙ none)),
+      items_read r none bs free.1,
+    )
 
   form_reads : {vars : List Variable} {ctx : Option CatId} {front : List Token} {items : List Item} {ts : List Token} {ss : List SchemeTree} →
       ReadsForm sig [] vars ctx front items ts ss → ctx ≡ None → vars ≡ [] → AreArguments sig [] (slots items) (map (instance_of empty 0) ss)

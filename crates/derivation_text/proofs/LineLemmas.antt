@@ -41,21 +41,21 @@ names_tree th known ts name form r rest tree label parts new makes e =
       rule = r;
       cited = cites.names;
       says =
-      record {
-        tokens_are = parts.tokens_are ∙ ap (λ (x : List Token). word name ∷ (colon ∷ (form ++ (word (codes "by") ∷ (word (codes "rule") ∷ (word r ∷ x)))))) cites.tokens_are;
-        well_written = (parts.own, parts.form_is, parts.rule_is, cites.are_names);
-      };
+          record {
+            tokens_are = parts.tokens_are ∙ ap (λ (x : List Token). word name ∷ (colon ∷ (form ++ (word (codes "by") ∷ (word (codes "rule") ∷ (word r ∷ x)))))) cites.tokens_are;
+            well_written = (parts.own, parts.form_is, parts.rule_is, cites.are_names);
+          };
       valid =
-      record {
-        new = new;
-        scheme = makes.has_value.scheme;
-        reads = makes.has_value.reads;
-        number = makes.number;
-        rule_is = makes.rule_is;
-        trees = makes.trees;
-        earlier = cites.trees;
-        makes = subst (λ (v : JudgmentValue). IsMade th makes.number v makes.trees tree) makes.has_value.value makes.makes;
-      };
+          record {
+            new = new;
+            scheme = makes.has_value.scheme;
+            reads = makes.has_value.reads;
+            number = makes.number;
+            rule_is = makes.rule_is;
+            trees = makes.trees;
+            earlier = cites.trees;
+            makes = subst (λ (v : JudgmentValue). IsMade th makes.number v makes.trees tree) makes.has_value.value makes.makes;
+          };
     })
 
 pub says_parts : (ts : List Token) (name : List ℕ) (form : List Token) (r : List ℕ) (cited : List (List ℕ)) → Says ts (node_line name form r cited) → HasParts ts name form r (on_tokens cited)
@@ -97,9 +97,9 @@ no_tree_named th known ts name form r rest parts none one h =
 -- the place of the first that passes, in a view of a list
 place_map : {A B : Type 0} (f : A → B) (p : B → Bool) (xs : List A) → position_or_len p (map f xs) ≡ position_or_len (λ x. p (f x)) xs
 place_map f p xs = is_position_or_len (λ ys. position_or_len p (map f ys)) (λ x. p (f x)) refl (λ x ys. step (p (f x)) (position_or_len p (map f ys))) xs where
-    step : (b : Bool) (n : ℕ) → cond (not b) (1 + n) 0 ≡ cond b 0 (1 + n)
-    step true n = refl
-    step false n = refl
+  step : (b : Bool) (n : ℕ) → cond (not b) (1 + n) 0 ≡ cond b 0 (1 + n)
+  step true n = refl
+  step false n = refl
 
 pub position_map : {A B : Type 0} (f : A → B) (p : B → Bool) (xs : List A) → position p (map f xs) ≡ position (λ x. p (f x)) xs
 position_map f p xs =

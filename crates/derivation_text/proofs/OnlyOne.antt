@@ -101,11 +101,12 @@ one_text th source around other c d so_far bare h k =
     (first.0 ∙ sym second.0, valid_once th bare so_far (text_lines h.tokens) [] c d first.1 second.1)
 
 pub text_gives : TextGivesInputs
-text_gives th st source around c xs so_far bare text =
-    (λ gives. record { around = around; contents = c; text = text; inputs = gives },
-    λ stands.
-    (let same = one_text th source stands.around around stands.contents c so_far bare stands.text text in
-    subst (λ (x : Contents). GivesInputs th st around x xs) same.1 (subst (λ (x : Around). GivesInputs th st x stands.contents xs) same.0 stands.inputs)))
+text_gives th st source around c xs so_far bare text = (
+  λ gives. record { around = around; contents = c; text = text; inputs = gives },
+  λ stands.
+      (let same = one_text th source stands.around around stands.contents c so_far bare stands.text text in
+      subst (λ (x : Contents). GivesInputs th st around x xs) same.1 (subst (λ (x : Around). GivesInputs th st x stands.contents xs) same.0 stands.inputs)),
+)
 
 pub one_list : InputsAreUnique
 one_list th st source xs ys so_far bare takes h k =

@@ -78,12 +78,13 @@ module _ (th : Theory) (bare : HasNoContexts th) (so_far : IsSystemSoFar th) whe
 
   pub reaches_tree : (all lines rest : List Line) (n : ℕ) (ts : List Token) (known : List Named) (one : Named) → Reaches th all known lines → lines ≡ (n, ts) ∷ rest
       → NamesTree th nothing_around known ts one → Reaches th all (known ++ one ∷ []) rest
-  reaches_tree all lines rest n ts known one reach e names c =
-      (λ v. forth (subst (λ (x : List Line). AreValid th nothing_around known x c) e ((reach c).0 v)),
-      λ v. (reach c).1 (subst (λ (x : List Line). AreValid th nothing_around known x c) (sym e) (inl (one, names, v)))) where
-      forth : AreValid th nothing_around known ((n, ts) ∷ rest) c → AreValid th nothing_around (known ++ one ∷ []) rest c
-      forth (inl h) = subst (λ (x : Named). AreValid th nothing_around (known ++ x ∷ []) rest c) (names_once known ts h.0 one h.1 names) h.2
-      forth (inr h) = absurd (names_not_last th known ts one c.last names h.0)
+  reaches_tree all lines rest n ts known one reach e names c = (
+    λ v. forth (subst (λ (x : List Line). AreValid th nothing_around known x c) e ((reach c).0 v)),
+    λ v. (reach c).1 (subst (λ (x : List Line). AreValid th nothing_around known x c) (sym e) (inl (one, names, v))),
+  ) where
+    forth : AreValid th nothing_around known ((n, ts) ∷ rest) c → AreValid th nothing_around (known ++ one ∷ []) rest c
+    forth (inl h) = subst (λ (x : Named). AreValid th nothing_around (known ++ x ∷ []) rest c) (names_once known ts h.0 one h.1 names) h.2
+    forth (inr h) = absurd (names_not_last th known ts one c.last names h.0)
 
   subtrees_derive : (ds : List Derivation) → AllByRecursion (Derives th) ds → SubtreesDerive th (subtrees_of ds)
   subtrees_derive [] all = tt
@@ -117,16 +118,16 @@ reaches_last th all lines rest n ts known last reach e none is_last =
 pub reaches_wrong : (th : Theory) (all lines rest : List Line) (n : ℕ) (ts : List Token) (known : List Named) → Reaches th all known lines → lines ≡ (n, ts) ∷ rest
     → HasNoNamedTree th known ts → HasNoLast known ts → (c : Contents) → AreValid th nothing_around [] all c → ⊥
 reaches_wrong th all lines rest n ts known reach e no_tree no_end c v = at (subst (λ (x : List Line). AreValid th nothing_around known x c) e ((reach c).0 v)) where
-    at : AreValid th nothing_around known ((n, ts) ∷ rest) c → ⊥
-    at (inl h) = no_tree h.0 h.1
-    at (inr h) = no_end c.last h.0
+  at : AreValid th nothing_around known ((n, ts) ∷ rest) c → ⊥
+  at (inl h) = no_tree h.0 h.1
+  at (inr h) = no_end c.last h.0
 
 pub reaches_more : (th : Theory) (all lines rest : List Line) (n : ℕ) (ts : List Token) (known : List Named) → Reaches th all known lines → lines ≡ (n, ts) ∷ rest
     → HasNoNamedTree th known ts → (rest ≡ [] → ⊥) → (c : Contents) → AreValid th nothing_around [] all c → ⊥
 reaches_more th all lines rest n ts known reach e no_tree some c v = at (subst (λ (x : List Line). AreValid th nothing_around known x c) e ((reach c).0 v)) where
-    at : AreValid th nothing_around known ((n, ts) ∷ rest) c → ⊥
-    at (inl h) = no_tree h.0 h.1
-    at (inr h) = some h.1
+  at : AreValid th nothing_around known ((n, ts) ∷ rest) c → ⊥
+  at (inl h) = no_tree h.0 h.1
+  at (inr h) = some h.1
 
 -- no context line without categories of contexts
 no_wants : (n : ℕ) (cats : List Cat) → AllByRecursion (λ cat. cat.context ≡ false) cats → contexts_from n cats ≡ []

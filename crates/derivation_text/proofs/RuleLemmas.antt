@@ -112,9 +112,10 @@ module _ (th : Theory) (bare : HasNoContexts th) where
   premises_fit so_far names [] [] none e forms all = tt
   premises_fit so_far names [] (d ∷ ds) none e forms all = absurd (omega arith)
   premises_fit so_far names (p ∷ ps) [] none e forms all = absurd (omega arith)
-  premises_fit so_far names (p ∷ ps) (d ∷ ds) none e forms all =
-      (((form_closed names p forms.0).1, arguments_fit names p (judgment d) none forms.0 (derives_a_judgment th d so_far all.0)),
-      premises_fit so_far names ps ds none (omega arith) forms.1 all.1)
+  premises_fit so_far names (p ∷ ps) (d ∷ ds) none e forms all = (
+    ((form_closed names p forms.0).1, arguments_fit names p (judgment d) none forms.0 (derives_a_judgment th d so_far all.0)),
+    premises_fit so_far names ps ds none (omega arith) forms.1 all.1,
+  )
 
   not_assumption : (r : Rule) → RuleFits th r → IsAssumption r → ⊥
   not_assumption r fits h =
@@ -140,12 +141,12 @@ module _ (th : Theory) (bare : HasNoContexts th) where
         inst = inst;
         root = is_match.root ∙ sym ctx;
         scope =
-        record {
-          root = subst (λ (root : Root). IsValue th.sig root inst.root) (sym (form_closed (rule_names r) r.conclusion fits.forms.conclusion).0)
-          (ap (λ (w : ContextValue). w.cat) is_match.root, ap (λ (w : ContextValue). w.entries) is_match.root);
-          metas = is_match.metas;
-          knowns = subst (λ (ks : List (Option ℕ)). AllZip (IsKnownPlace inst) [] ks) (sym is_match.knowns) tt;
-        };
+            record {
+              root = subst (λ (root : Root). IsValue th.sig root inst.root) (sym (form_closed (rule_names r) r.conclusion fits.forms.conclusion).0)
+                  (ap (λ (w : ContextValue). w.cat) is_match.root, ap (λ (w : ContextValue). w.entries) is_match.root);
+              metas = is_match.metas;
+              knowns = subst (λ (ks : List (Option ℕ)). AllZip (IsKnownPlace inst) [] ks) (sym is_match.knowns) tt;
+            };
         conclusion = is_match.pairs.0;
         premises = instances_from inst r.premises ds e is_match.pairs.1;
       }

@@ -48,9 +48,9 @@ front_begins false n x y xs ys e f = record { line = y; rest = ys; lines_are = r
 
 pub begins : (t : PlainToken) (ts : List PlainToken) → BeginsWith t.line (text_lines (t ∷ ts))
 begins t ts = at (text_lines ts) where
-    at : (ls : List Line) → BeginsWith t.line (in_front t.line (taken t) ls)
-    at [] = record { line = (t.line, taken t ∷ []); rest = []; lines_are = refl; number = refl }
-    at (l ∷ ls) = front_begins (t.line == l.0) t.line (t.line, taken t ∷ l.1) (t.line, taken t ∷ []) ls (l ∷ ls) refl refl
+  at : (ls : List Line) → BeginsWith t.line (in_front t.line (taken t) ls)
+  at [] = record { line = (t.line, taken t ∷ []); rest = []; lines_are = refl; number = refl }
+  at (l ∷ ls) = front_begins (t.line == l.0) t.line (t.line, taken t ∷ l.1) (t.line, taken t ∷ []) ls (l ∷ ls) refl refl
 
 last_token : (t : Token) (b : List Token) → IsOtherLine t.line b → text_lines (token_view t ∷ map token_view b) ≡ (t.line, taken (token_view t) ∷ []) ∷ text_lines (map token_view b)
 last_token t [] h = refl
@@ -79,11 +79,12 @@ pub first_is : (ts a b : List Token) (d : Token) → 0 < length ts → IsLineCut
 first_is ts a b d some cut =
     let n = (get_or ts 0 d).line in
     let first = first_of ts a b d some cut in
-    let on_line = subst (AllByRecursion (λ t. t.line ≡ n)) first.2 cut.on_line in
-    (n,
-    ap (λ (x : List Token). text_lines (map token_view x)) (cut.parts ∙ ap (λ (x : List Token). x ++ b) first.2)
-    ∙ whole_line n first.0 first.1 b first.3 on_line.1 cut.stops
-    ∙ ap (λ (x : List Token). (n, map token x) ∷ text_lines (map token_view b)) (sym first.2))
+    let on_line = subst (AllByRecursion (λ t. t.line ≡ n)) first.2 cut.on_line in (
+      n,
+      ap (λ (x : List Token). text_lines (map token_view x)) (cut.parts ∙ ap (λ (x : List Token). x ++ b) first.2)
+          ∙ whole_line n first.0 first.1 b first.3 on_line.1 cut.stops
+          ∙ ap (λ (x : List Token). (n, map token x) ∷ text_lines (map token_view b)) (sym first.2),
+    )
 
 pub first_some : (ts a b : List Token) (d : Token) → 0 < length ts → IsLineCut (get_or ts 0 d).line ts a b → 0 < length a
 first_some ts a b d some cut = (let first = first_of ts a b d some cut in let size = ap length first.2 in omega arith)

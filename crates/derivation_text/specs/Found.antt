@@ -1,4 +1,4 @@
--- What functions inside the crate find in the tokens of a line. No public clause cites it.
+-- What functions inside the crate find in the tokens of a line. No public clause cites it but for `AllDerive`.
 use Rattle.std.specs.Prelude.{◌≡◌, ◌≢◌, ℕ, ◌==◌, ◌&&◌, if◌then◌else◌, Bool, IsTrue, IsFalse, List, [], ◌∷◌, ◌++◌, Option, Some, None, option_map, codes}
 use Rattle.std.specs.List.{AllByRecursion}
 use Rattle.std.specs.Str.{bytes_eq}

@@ -136,7 +136,7 @@ fn opened(depth: usize, t: &Token<'_>) -> Option<usize>
 
 /// The place of the parenthesis that closes.
 fn closing(tokens: &[Token<'_>]) -> Option<usize>
-    ensures { MatchOption result (HasNoClosing (map token tokens.now)) 
+    ensures { MatchOption result (HasNoClosing (map token tokens.now))
         (λ place. (place < length tokens.now) × Closes 0 (map token tokens.now) (map token (take place tokens.now)) (map token (drop (place + 1) tokens.now))) }
 {
     let mut depth = 0usize;
@@ -168,10 +168,7 @@ struct Argued<'a> {
 }
 
 /// The form up to the parenthesis that closes, after the one that opens.
-fn enclosed<'a>(
-    alloc: Global,
-    tokens: &'a [Token<'a>],
-) -> Result<Option<Argued<'a>>, NoMemory>
+fn enclosed<'a>(alloc: Global, tokens: &'a [Token<'a>]) -> Result<Option<Argued<'a>>, NoMemory>
     ensures front { (known : List OfNamed) → IfOk result (λ found. MatchOption found (HasNoFront known (punctuation 40 ∷ map token tokens.now))
         (λ p. IsFront known (punctuation 40 ∷ map token tokens.now) (argument p.argument) (map token p.rest.now))) }
     ensures shorter { IfOk result (λ found. IfSome found (λ p. length p.rest.now ≤ length tokens.now)) }
@@ -328,11 +325,7 @@ fn applied<'a>(
     }
 }
 
-fn given(
-    alloc: Global,
-    known: &[Named],
-    tokens: &[Token<'_>],
-) -> Result<Option<Ending>, NoMemory>
+fn given(alloc: Global, known: &[Named], tokens: &[Token<'_>]) -> Result<Option<Ending>, NoMemory>
     ensures { IfOk result (λ found. MatchOption found (HasNoLast known.now (spec.gives_word ∷ map token tokens.now))
         (λ e. IsLast known.now (spec.gives_word ∷ map token tokens.now) (last_of e))) }
 {

@@ -1,4 +1,4 @@
-//! Judgments and derivations as text.
+//! Judgments and derivations as text, both ways.
 #![tactic(auto)]
 
 mod cited;

@@ -89,11 +89,7 @@ fn read_lines<'a>(
 ///
 /// A text is valid where each of its lines is, by docs/notation.md, 'Derivation text'. The tree of each name is then a derivation. Here no
 /// judgment assumes a context, so no text with a context line is valid.
-pub fn read_derivs(
-    alloc: Global,
-    sys: &System,
-    source: &[u8],
-) -> Result<Option<Derivs>, NoMemory>
+pub fn read_derivs(alloc: Global, sys: &System, source: &[u8]) -> Result<Option<Derivs>, NoMemory>
     requires short { length source.now < 2 ^ 32 - 1 }
     requires bare { HasNoContexts (theory sys.now) }
     ensures { IfOk result (λ found. MatchOption found (HasNoText (theory sys.now) source.now)

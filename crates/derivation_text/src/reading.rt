@@ -34,17 +34,20 @@ fn no_scope(alloc: Global) -> ReadScope
 }
 
 /// What the form reads as, if it has one reading alone.
-fn scheme_of(
-    alloc: Global,
-    sys: &System,
-    tokens: &[Token<'_>],
-) -> Result<Option<JScheme>, NoMemory>
+fn scheme_of(alloc: Global, sys: &System, tokens: &[Token<'_>]) -> Result<Option<JScheme>, NoMemory>
     requires { HasNoContexts (theory sys.now) }
     ensures { IfOk result (λ found. MatchOption found (HasNoJudgment (theory sys.now) (map token tokens.now))
         (λ j. ReadsJudgment (theory sys.now) (map token tokens.now) (judgment_scheme j))) }
 {
     let scope = no_scope(alloc);
-    match read(alloc, sys.sig(), sys.judgments(), &scope, Want::Judgment, tokens)? {
+    match read(
+        alloc,
+        sys.sig(),
+        sys.judgments(),
+        &scope,
+        Want::Judgment,
+        tokens,
+    )? {
         Reading::One(written, _, _) => match written {
             Written::Judgment(scheme) => Ok(Some(scheme)),
             Written::Term(_) => Ok(None),

@@ -16,10 +16,11 @@ use Rattle.derivation_text.proofs.making.is_node.Goals as goal
 pub returns-then-premises-trees : goal.returns-then-premises-trees
 returns-then-premises-trees c =
     let th = theory c.args.sys.now in
-    let r = plain_rule c.args.rule.now in
-    (λ h. absurd (true≢false (sym h)),
-    λ n. absurd (other_length th c.requires.bare r (judgment_value c.args.judgment.now) c.args.trees.now
-    (λ e. c.if-premises-trees.true (ap length c.as_slice-premises.ensures ∙ sym (length-map c.args.rule.now.premises judgment_scheme) ∙ e)) n))
+    let r = plain_rule c.args.rule.now in (
+      λ h. absurd (true≢false (sym h)),
+      λ n. absurd (other_length th c.requires.bare r (judgment_value c.args.judgment.now) c.args.trees.now
+          (λ e. c.if-premises-trees.true (ap length c.as_slice-premises.ensures ∙ sym (length-map c.args.rule.now.premises judgment_scheme) ∙ e)) n),
+    )
 
 pub add-requires-clause-entries : goal.add-requires-clause-entries
 add-requires-clause-entries c =

@@ -46,9 +46,10 @@ loop-at-preserved c =
     let names = seen_as th c.loop-at.named _ line c.in_ok-look_at.field-0 (Tree c.in-Tree.one) c.as_slice.ensures c.in_ok-look_at.ensures c.in-Tree.is in
     let so_far = c.always_system.ensures.plain.so_far in
     let known : c.push.new.self ≡ c.loop-at.named ++ c.in-Tree.one ∷ [] = c.in_ok-push-in-Tree.ensures.ok in
-    let next = next_at c.args.tokens.now front more c.loop-at.at c.loop-at.invariant.0 c.first_line.ensures.parts in
-    (next_within c.args.tokens.now front more c.loop-at.at c.loop-at.invariant.0 c.first_line.ensures.parts,
-    subst (AllDerive th) (sym known) (names_derive th c.requires so_far c.loop-at.named line c.in-Tree.one c.loop-at.invariant.1 names),
-    subst (λ (ks : List Named). Reaches th all ks (text_lines (map token_view (drop (c.loop-at.at + length front) c.args.tokens.now)))) (sym known)
-    (subst (λ (ts : List Lexed). Reaches th all (c.loop-at.named ++ c.in-Tree.one ∷ []) (text_lines (map token_view ts))) (sym next)
-    (reaches_tree th c.requires so_far all _ _ lines.0 line c.loop-at.named c.in-Tree.one c.loop-at.invariant.2 lines.1 names)))
+    let next = next_at c.args.tokens.now front more c.loop-at.at c.loop-at.invariant.0 c.first_line.ensures.parts in (
+      next_within c.args.tokens.now front more c.loop-at.at c.loop-at.invariant.0 c.first_line.ensures.parts,
+      subst (AllDerive th) (sym known) (names_derive th c.requires so_far c.loop-at.named line c.in-Tree.one c.loop-at.invariant.1 names),
+      subst (λ (ks : List Named). Reaches th all ks (text_lines (map token_view (drop (c.loop-at.at + length front) c.args.tokens.now)))) (sym known)
+          (subst (λ (ts : List Lexed). Reaches th all (c.loop-at.named ++ c.in-Tree.one ∷ []) (text_lines (map token_view ts))) (sym next)
+          (reaches_tree th c.requires so_far all _ _ lines.0 line c.loop-at.named c.in-Tree.one c.loop-at.invariant.2 lines.1 names)),
+    )
