@@ -4,3 +4,13 @@ pub mod Pages
 pub mod Sameness
 pub mod Scopes
 pub mod Terms
+pub mod NodeLemmas
+pub mod CitedLemmas
+pub mod FormLemmas
+pub mod RuleLemmas
+pub mod LineLemmas
+pub mod SplitLemmas
+pub mod EndingLemmas
+pub mod ReaderLemmas
+pub mod InputLemmas
+pub mod OnlyOne

@@ -1,4 +1,17 @@
+pub mod Bare
+pub mod Contents
+pub mod Ending
+pub mod Forms
+pub mod Found
+pub mod Given
+pub mod Inputs
+pub mod Laws
+pub mod Lines
+pub mod Making
 pub mod Page
+pub mod Reader
+pub mod Splitting
 pub mod Text
+pub mod Valid
 pub mod View
 pub mod Worked

@@ -1,11 +1,23 @@
-//! Judgments and derivations as text.
+//! Judgments and derivations as text, both ways.
 #![tactic(auto)]
 
+mod cited;
 mod context;
 mod derivation;
+mod derivs;
+mod ending;
+mod inputs;
 mod judgment;
+mod laws;
+mod line;
+mod making;
+mod node;
 mod page;
+mod reader;
+mod reading;
 mod same;
+mod signs;
+mod split;
 mod term;
 #[cfg(test)]
 mod tests;
@@ -13,5 +25,8 @@ mod words;
 mod worked;
 
 pub use derivation::print_derivs;
+pub use derivs::{Argument, Derivs, Ending, Kept, Named};
 pub use judgment::print_judgment;
+pub use laws::{inputs_are_unique, texts_are_unique};
+pub use reader::read_derivs;
 pub use worked::{binders_are_written, contexts_are_written, sums_are_written};

@@ -1,0 +1,386 @@
+-- The arguments and names of the last line of a text.
+use Rattle.std.proofs.Common.{◌≡◌, ◌≢◌, ◌<◌, ◌≤◌, ◌+◌, ℕ, length-drop, zero, suc, ◌==◌, Bool, true, false, ◌&&◌, IsTrue, IsFalse, List, [], ◌∷◌, ◌++◌, length, map, take, drop, refl, ap, ◌∙◌, sym, subst, arith, get_or, Some, None, nat_eq, if◌then◌else◌, option_map, append-nil, append_assoc, inl, inr, true≢false, drop-cons, add-one, codes}
+use Rattle.std.specs.Prelude.{Option, ◌⊎◌, is_some, Result, Ok, Err, IfOk, MatchBool}
+use Rattle.std.proofs.Math.Seq.{take-suc}
+use Rattle.std.proofs.lemmas.List.{map-append}
+use Rattle.std.specs.List.{AllByRecursion}
+use Rattle.rule_schemes.specs.Reading.{word, punctuation}
+use Rattle.rule_schemes.specs.Reading.{Token as Read}
+use Rattle.proof_lexer.specs.declared.token.Token.{Token}
+use Rattle.notation_parser.specs.View.{token}
+use Rattle.derivation_text.specs.Forms.{IsBalanced, at_end, opens, closes, neither, Argument, by_name, enclosed, IsForm, IsArgument, argument_tokens, further_arguments, arguments_tokens, APPLY, GIVES, is_name, AreNames, further_names, names_tokens}
+use Rattle.derivation_text.specs.Valid.{tree_named, no_last, applied, given_out, IsLast, IsKnown, IsKnownArgument}
+use Rattle.derivation_text.specs.Found.{is_name_token, with_first}
+use Rattle.std.specs.Str.{bytes_eq}
+use Rattle.rule_schemes.specs.Derivation.{Derivation}
+use Rattle.derivation_text.proofs.CitedLemmas.{if_some, if_true, with_some, comma_is}
+use Rattle.derivation_text.specs.Ending as spec
+use Rattle.derivation_text.specs.Ending.{Closes, HasNoClosing, Turns, IsFront, HasNoFront, IsRest, HasNoRest, IsArguments, HasNoArguments, HasNoLast}
+use Rattle.derivation_text.specs.declared.derivs.Named.{Named}
+use Rattle.derivation_text.proofs.NodeLemmas.{heads, tails, name_is_word}
+
+-- at the end of the further names
+pub further_end : (known : List Named) (names : List (List ℕ)) (rest : List Token) → length rest < 2
+    → (if nat_eq (length rest) 0 then Some names else None) ≡ option_map (λ ws. names ++ ws) (spec.further_known known (map token rest))
+further_end known names [] short = ap Some (sym (append-nil names))
+further_end known names (t ∷ []) short = refl
+further_end known names (t ∷ (u ∷ ts)) short = absurd (omega arith)
+
+apart : punctuation 40 ≡ punctuation 41 → ⊥
+apart e = (let n : ◌≡◌ {A = ℕ} 40 41 = ap (λ (t : Read). get_or t.1 0 0) e in absurd (omega (arith, n)))
+
+nothing_cons : {A : Type 0} (x : A) (xs ys : List A) → [] ≡ xs ++ x ∷ ys → ⊥
+nothing_cons x [] ys e = cc
+nothing_cons x (y ∷ xs) ys e = cc
+
+-- what is read up to a place of the tokens, and what is still to come
+pub record Passes (whole front back : List Read) (n : ℕ) : Type 0 where
+  pub forth : (form rest : List Read) → Closes 0 whole form rest → (more : List Read) × (form ≡ front ++ more) × Closes n back more rest
+  pub back_from : (more rest : List Read) → Closes n back more rest → Closes 0 whole (front ++ more) rest
+
+pub passes_none : (whole : List Read) → Passes whole [] whole 0
+passes_none whole = record { forth = λ form rest h. (form, refl, h); back_from = λ more rest h. h }
+
+-- what stands behind the first token of a balanced form
+after_token : (n m : ℕ) (t : Read) (ts : List Read) → Turns n t m → IsBalanced n (t ∷ ts) → IsBalanced m ts
+after_token n m t ts (inl h) (opens e b) = subst (λ (k : ℕ). IsBalanced k ts) (sym h.1) b
+after_token n m t ts (inr (inl h)) (opens e b) = absurd (apart (sym e ∙ h.0))
+after_token n m t ts (inr (inr h)) (opens e b) = absurd (h.0 e)
+after_token n m t ts (inl h) (closes e k b) = absurd (apart (sym h.0 ∙ e))
+after_token n m t ts (inr (inl h)) (closes {m = l} e k b) = (let same : l ≡ m = omega (arith, k, h.1) in subst (λ (j : ℕ). IsBalanced j ts) same b)
+after_token n m t ts (inr (inr h)) (closes e k b) = absurd (h.1 e)
+after_token n m t ts (inl h) (neither e f b) = absurd (e h.0)
+after_token n m t ts (inr (inl h)) (neither e f b) = absurd (f h.0)
+after_token n m t ts (inr (inr h)) (neither e f b) = subst (λ (k : ℕ). IsBalanced k ts) (sym h.2) b
+
+before_token : (n m : ℕ) (t : Read) (ts : List Read) → Turns n t m → IsBalanced m ts → IsBalanced n (t ∷ ts)
+before_token n m t ts (inl h) b = opens h.0 (subst (λ (k : ℕ). IsBalanced k ts) h.1 b)
+before_token n m t ts (inr (inl h)) b = closes h.0 h.1 b
+before_token n m t ts (inr (inr h)) b = neither h.0 h.1 (subst (λ (k : ℕ). IsBalanced k ts) h.2 b)
+
+-- a token that closes one more than are open turns to nothing
+not_first : (n m : ℕ) (t : Read) → Turns n t m → t ≡ punctuation 41 → IsBalanced n [] → ⊥
+not_first n m t (inl h) e b = apart (sym h.0 ∙ e)
+not_first n m t (inr (inl h)) e (at_end k) = absurd (omega (arith, k, h.1))
+not_first n m t (inr (inr h)) e b = h.1 e
+
+closes_after : (n m : ℕ) (t : Read) (back more rest : List Read) → Turns n t m → Closes n (t ∷ back) more rest
+    → (left : List Read) × (more ≡ t ∷ left) × Closes m back left rest
+closes_after n m t back [] rest turns h = absurd (not_first n m t turns (heads h.tokens_are) h.balanced)
+closes_after n m t back (u ∷ more) rest turns h =
+    let same : t ≡ u = heads h.tokens_are in (
+      more,
+      ap (λ (x : Read). x ∷ more) (sym same),
+      record { tokens_are = tails h.tokens_are; balanced = after_token n m t more turns (subst (λ (x : Read). IsBalanced n (x ∷ more)) (sym same) h.balanced) },
+    )
+
+closes_before : (n m : ℕ) (t : Read) (back more rest : List Read) → Turns n t m → Closes m back more rest → Closes n (t ∷ back) (t ∷ more) rest
+closes_before n m t back more rest turns h =
+    record { tokens_are = ap (λ (x : List Read). t ∷ x) h.tokens_are; balanced = before_token n m t more turns h.balanced }
+
+joined : (front more : List Read) (t : Read) → (front ++ t ∷ []) ++ more ≡ front ++ t ∷ more
+joined front more t = append_assoc front (t ∷ []) more
+
+passes_one : (whole front back : List Read) (t : Read) (n m : ℕ) → Passes whole front (t ∷ back) n → Turns n t m → Passes whole (front ++ t ∷ []) back m
+passes_one whole front back t n m p turns =
+    record {
+      forth = λ form rest h.
+          (let first = p.forth form rest h in
+          let next = closes_after n m t back first.0 rest turns first.2 in
+          (next.0, first.1 ∙ ap (λ (x : List Read). front ++ x) next.1 ∙ sym (joined front next.0 t), next.2));
+      back_from = λ more rest h.
+          subst (λ (x : List Read). Closes 0 whole x rest) (sym (joined front more t)) (p.back_from (t ∷ more) rest (closes_before n m t back more rest turns h));
+    }
+
+split_drop : (tokens : List Token) (i : ℕ) (d : Token) → i < length tokens → map token (drop i tokens) ≡ token (get_or tokens i d) ∷ map token (drop (i + 1) tokens)
+split_drop tokens i d within = ap (map token) (drop-cons tokens i d within ∙ (λ k. get_or tokens i d ∷ drop (sym (add-one i) k) tokens))
+
+split_take : (tokens : List Token) (i : ℕ) (d : Token) → i < length tokens → map token (take (i + 1) tokens) ≡ map token (take i tokens) ++ token (get_or tokens i d) ∷ []
+split_take tokens i d within =
+    ap (λ (j : ℕ). map token (take j tokens)) (add-one i) ∙ ap (map token) (take-suc tokens i d within) ∙ map-append token (take i tokens) (get_or tokens i d ∷ [])
+
+pub passes_next : (tokens : List Token) (i : ℕ) (d : Token) (whole : List Read) (n m : ℕ) → i < length tokens
+    → Passes whole (map token (take i tokens)) (map token (drop i tokens)) n → Turns n (token (get_or tokens i d)) m
+    → Passes whole (map token (take (i + 1) tokens)) (map token (drop (i + 1) tokens)) m
+passes_next tokens i d whole n m within p turns =
+    subst (λ (x : List Read). Passes whole x (map token (drop (i + 1) tokens)) m) (sym (split_take tokens i d within))
+    (passes_one whole (map token (take i tokens)) (map token (drop (i + 1) tokens)) (token (get_or tokens i d)) n m
+    (subst (λ (x : List Read). Passes whole (map token (take i tokens)) x n) (split_drop tokens i d within) p) turns)
+
+drop_past : (tokens : List Token) (i : ℕ) → length tokens ≤ i → drop i tokens ≡ []
+drop_past tokens i past = empty_list (drop i tokens) (omega (arith, length-drop i tokens)) where
+  empty_list : (xs : List Token) → length xs ≡ 0 → xs ≡ []
+  empty_list [] e = refl
+  empty_list (x ∷ xs) e = absurd (omega arith)
+
+pub passes_end : (whole front : List Read) (n : ℕ) → Passes whole front [] n → HasNoClosing whole
+passes_end whole front n p form rest h =
+    let first = p.forth form rest h in
+    nothing_cons (punctuation 41) first.0 rest first.2.tokens_are
+
+pub passes_found : (tokens : List Token) (i : ℕ) (d : Token) (n : ℕ) → i < length tokens
+    → Passes (map token tokens) (map token (take i tokens)) (map token (drop i tokens)) n → token (get_or tokens i d) ≡ punctuation 41 → n ≡ 0
+    → Closes 0 (map token tokens) (map token (take i tokens)) (map token (drop (i + 1) tokens))
+passes_found tokens i d n within p closing zero_open =
+    let rest = map token (drop (i + 1) tokens) in
+    let whole = map token tokens in
+    let here : Closes n (map token (drop i tokens)) [] rest =
+    record { tokens_are = split_drop tokens i d within ∙ ap (λ (t : Read). t ∷ rest) closing; balanced = at_end zero_open } in
+    subst (λ (x : List Read). Closes 0 whole x rest) (append-nil (map token (take i tokens))) (p.back_from [] rest here)
+
+pub none_left : (tokens : List Token) (i : ℕ) (n : ℕ) → length tokens ≤ i → Passes (map token tokens) (map token (take i tokens)) (map token (drop i tokens)) n → HasNoClosing (map token tokens)
+none_left tokens i n past p =
+    passes_end (map token tokens) (map token (take i tokens)) n
+    (subst (λ (x : List Token). Passes (map token tokens) (map token (take i tokens)) (map token x) n) (drop_past tokens i past) p)
+
+ends_closed : (n : ℕ) (t : Read) (ts : List Read) → t ≡ punctuation 41 → IsBalanced n [] → IsBalanced n (t ∷ ts) → ⊥
+ends_closed n t ts e (at_end z) (opens f b) = apart (sym f ∙ e)
+ends_closed n t ts e (at_end z) (closes f k b) = absurd (omega (arith, z, k))
+ends_closed n t ts e (at_end z) (neither f g b) = g e
+
+balanced_turn : (n : ℕ) (t : Read) (ts : List Read) → IsBalanced n (t ∷ ts) → (m : ℕ) × Turns n t m
+balanced_turn n t ts (opens e b) = (n + 1, inl (e, refl))
+balanced_turn n t ts (closes {m = m} e k b) = (m, inr (inl (e, k)))
+balanced_turn n t ts (neither e f b) = (n, inr (inr (e, f, refl)))
+
+balanced_once : (n : ℕ) (f g r s : List Read) → f ++ punctuation 41 ∷ r ≡ g ++ punctuation 41 ∷ s → IsBalanced n f → IsBalanced n g → (f ≡ g) × (r ≡ s)
+balanced_once n [] [] r s e a b = (refl, tails e)
+balanced_once n [] (y ∷ g) r s e a b = absurd (ends_closed n y g (sym (heads e)) a b)
+balanced_once n (x ∷ f) [] r s e a b = absurd (ends_closed n x f (heads e) b a)
+balanced_once n (x ∷ f) (y ∷ g) r s e a b =
+    let same : x ≡ y = heads e in
+    let turn = balanced_turn n x f a in
+    let rest = balanced_once turn.0 f g r s (tails e) (after_token n turn.0 x f turn.1 a)
+    (after_token n turn.0 x g turn.1 (subst (λ (t : Read). IsBalanced n (t ∷ g)) (sym same) b)) in
+    (λ i. same i ∷ rest.0 i, rest.1)
+
+-- a form ends at the one parenthesis that closes it
+pub closes_once : (n : ℕ) (ts f g r s : List Read) → Closes n ts f r → Closes n ts g s → (f ≡ g) × (r ≡ s)
+closes_once n ts f g r s a b = balanced_once n f g r s (sym a.tokens_are ∙ b.tokens_are) a.balanced b.balanced
+
+kinds : (w v : List ℕ) → word w ≡ (2, v) → ⊥
+kinds w v e = (let n : ◌≡◌ {A = ℕ} 0 2 = ap (λ (t : Read). t.0) e in absurd (omega (arith, n)))
+
+-- an argument that a parenthesis begins is a form up to the one that closes
+pub front_closes : (known : List Named) (ts : List Read) (a : Argument) (rest : List Read) → IsFront known (punctuation 40 ∷ ts) a rest
+    → (form : List Read) × (a ≡ enclosed form) × IsForm form × Closes 0 ts form rest
+front_closes known ts (by_name w) rest h = absurd (kinds w (40 ∷ []) (sym (heads h.tokens_are)))
+front_closes known ts (enclosed form) rest h =
+    (form, refl, h.is_argument.0, record { tokens_are = tails h.tokens_are ∙ append_assoc form (punctuation 41 ∷ []) rest; balanced = h.is_argument.1 })
+
+pub no_front_unclosed : (known : List Named) (ts : List Read) → HasNoClosing ts → HasNoFront known (punctuation 40 ∷ ts)
+no_front_unclosed known ts none a rest h = (let closed = front_closes known ts a rest h in none closed.0 rest closed.3)
+
+pub no_front_form : (known : List Named) (ts form after : List Read) → Closes 0 ts form after → (IsForm form → ⊥) → HasNoFront known (punctuation 40 ∷ ts)
+no_front_form known ts form after found none a rest h =
+    let closed = front_closes known ts a rest h in
+    none (subst IsForm (closes_once 0 ts closed.0 form rest after closed.3 found).0 closed.2)
+
+pub front_enclosed : (known : List Named) (ts form after : List Read) → Closes 0 ts form after → IsForm form → IsFront known (punctuation 40 ∷ ts) (enclosed form) after
+front_enclosed known ts form after found is_form =
+    record {
+      tokens_are = ap (λ (x : List Read). punctuation 40 ∷ x) (found.tokens_are ∙ sym (append_assoc form (punctuation 41 ∷ []) after));
+      is_argument = (is_form, found.balanced);
+      is_known = tt;
+    }
+
+pub front_once : (known : List Named) (ts : List Read) (a b : Argument) (r s : List Read) → IsFront known ts a r → IsFront known ts b s → (a ≡ b) × (r ≡ s)
+front_once known ts (by_name w) (by_name v) r s h k =
+    let whole = sym h.tokens_are ∙ k.tokens_are in
+    (ap (λ (t : Read). by_name t.1) (heads whole), tails whole)
+front_once known ts (by_name w) (enclosed g) r s h k = absurd (kinds w (40 ∷ []) (heads (sym h.tokens_are ∙ k.tokens_are)))
+front_once known ts (enclosed f) (by_name v) r s h k = absurd (kinds v (40 ∷ []) (sym (heads (sym h.tokens_are ∙ k.tokens_are))))
+front_once known ts (enclosed f) (enclosed g) r s h k =
+    let whole = tails (sym h.tokens_are ∙ k.tokens_are) in
+    let once = balanced_once 0 f g r s (sym (append_assoc f (punctuation 41 ∷ []) r) ∙ whole ∙ append_assoc g (punctuation 41 ∷ []) s) h.is_argument.1 k.is_argument.1 in
+    (ap enclosed once.0, once.1)
+
+first_argument : (known : List Named) (ts : List Read) (t : Read) (all : List Argument) → IsRest known (t ∷ ts) all
+    → (a : Argument) × (more : List Argument) × (all ≡ a ∷ more) × (t ≡ punctuation 44) × IsFront known ts a (further_arguments more) × AllByRecursion IsArgument more × AllByRecursion (IsKnownArgument known) more
+first_argument known ts t [] h = absurd (let e : t ∷ ts ≡ [] = h.tokens_are in cc)
+first_argument known ts t (a ∷ more) h =
+    (a, more, refl, heads h.tokens_are, record { tokens_are = tails h.tokens_are; is_argument = h.are_arguments.0; is_known = h.are_known.0 }, h.are_arguments.1, h.are_known.1)
+
+rest_none : (known : List Named) → IsRest known [] []
+rest_none known = record { tokens_are = refl; are_arguments = tt; are_known = tt }
+
+-- at the end of the tokens
+pub rest_at_end : (known : List Named) (old : List Argument) → (more : List Argument) × (old ≡ old ++ more) × IsRest known [] more
+rest_at_end known old = ([], sym (append-nil old), rest_none known)
+
+pub no_comma : (known : List Named) (t : Read) (ts : List Read) → (t ≡ punctuation 44 → ⊥) → HasNoRest known (t ∷ ts)
+no_comma known t ts none all h = none (first_argument known ts t all h).3
+
+pub no_argument : (known : List Named) (t : Read) (ts : List Read) → HasNoFront known ts → HasNoRest known (t ∷ ts)
+no_argument known t ts none all h =
+    let first = first_argument known ts t all h in
+    none first.0 (further_arguments first.1) first.4
+
+no_more : (known : List Named) (t : Read) (ts rest : List Read) (a : Argument) → IsFront known ts a rest → HasNoRest known rest → HasNoRest known (t ∷ ts)
+no_more known t ts rest a front none all h =
+    let first = first_argument known ts t all h in
+    let once = front_once known ts first.0 a (further_arguments first.1) rest first.4 front in
+    none first.1 (record { tokens_are = sym once.1; are_arguments = first.5; are_known = first.6 })
+
+one_more : (known : List Named) (t : Read) (ts rest : List Read) (a : Argument) (more : List Argument) → t ≡ punctuation 44 → IsFront known ts a rest → IsRest known rest more → IsRest known (t ∷ ts) (a ∷ more)
+one_more known t ts rest a more comma front h =
+    let behind = front.tokens_are ∙ ap (λ (x : List Read). argument_tokens a ++ x) h.tokens_are in
+    record {
+      tokens_are = λ i. comma i ∷ behind i;
+      are_arguments = (front.is_argument, h.are_arguments);
+      are_known = (front.is_known, h.are_known);
+    }
+
+-- after one argument more
+pub rest_after : {E : Type 0} (known : List Named) (t : Read) (ts rest : List Read) (a : Argument) (old mid new : List Argument) (r : Result Bool E) → t ≡ punctuation 44 → IsFront known ts a rest
+    → mid ≡ old ++ a ∷ []
+    → IfOk r (λ good. MatchBool good ((more : List Argument) × (new ≡ mid ++ more) × IsRest known rest more) (HasNoRest known rest))
+    → IfOk r (λ good. MatchBool good ((more : List Argument) × (new ≡ old ++ more) × IsRest known (t ∷ ts) more) (HasNoRest known (t ∷ ts)))
+rest_after known t ts rest a old mid new (Ok true) comma front e h =
+    (a ∷ h.0, h.1 ∙ ap (λ (x : List Argument). x ++ h.0) e ∙ append_assoc old (a ∷ []) h.0, one_more known t ts rest a h.0 comma front h.2)
+rest_after known t ts rest a old mid new (Ok false) comma front e h = no_more known t ts rest a front h
+rest_after known t ts rest a old mid new (Err x) comma front e h = tt
+
+arguments_front : (known : List Named) (ts : List Read) (all : List Argument) → (ts ≡ [] → ⊥) → IsArguments known ts all
+    → (a : Argument) × (more : List Argument) × (all ≡ a ∷ more) × IsFront known ts a (further_arguments more) × IsRest known (further_arguments more) more
+arguments_front known ts [] some h = absurd (some h.tokens_are)
+arguments_front known ts (a ∷ more) some h = (
+  a,
+  more,
+  refl,
+  record { tokens_are = h.tokens_are; is_argument = h.are_arguments.0; is_known = h.are_known.0 },
+  record { tokens_are = refl; are_arguments = h.are_arguments.1; are_known = h.are_known.1 },
+)
+
+pub no_front_arguments : (known : List Named) (ts : List Read) → (ts ≡ [] → ⊥) → HasNoFront known ts → HasNoArguments known ts
+no_front_arguments known ts some none all h = (let first = arguments_front known ts all some h in none first.0 (further_arguments first.1) first.3)
+
+pub no_rest_arguments : (known : List Named) (ts rest : List Read) (a : Argument) → (ts ≡ [] → ⊥) → IsFront known ts a rest → HasNoRest known rest → HasNoArguments known ts
+no_rest_arguments known ts rest a some front none all h =
+    let first = arguments_front known ts all some h in
+    let once = front_once known ts first.0 a (further_arguments first.1) rest first.3 front in
+    none first.1 (subst (λ (x : List Read). IsRest known x first.1) once.1 first.4)
+
+pub front_arguments : (known : List Named) (ts rest : List Read) (a : Argument) (more all : List Argument) → IsFront known ts a rest → IsRest known rest more → all ≡ a ∷ more → IsArguments known ts all
+front_arguments known ts rest a more all front h e =
+    subst (IsArguments known ts) (sym e)
+    (record {
+      tokens_are = front.tokens_are ∙ ap (λ (x : List Read). argument_tokens a ++ x) h.tokens_are;
+      are_arguments = (front.is_argument, h.are_arguments);
+      are_known = (front.is_known, h.are_known);
+    })
+
+pub words_apart : APPLY ≡ GIVES → ⊥
+words_apart e = (let n : ◌≡◌ {A = ℕ} 97 103 = ap (λ (w : List ℕ). get_or w 0 0) e in absurd (omega (arith, n)))
+
+pub word_text : {w v : List ℕ} → word w ≡ word v → w ≡ v
+word_text e = ap (λ (t : Read). t.1) e
+
+pub no_applied : (known : List Named) (ts : List Read) → HasNoArguments known ts → HasNoLast known (spec.apply_word ∷ ts)
+no_applied known ts none no_last h = h
+no_applied known ts none (applied args) h =
+    none args (record { tokens_are = tails h.0.tokens_are; are_arguments = h.0.well_written; are_known = h.1 })
+no_applied known ts none (given_out names) h = words_apart (word_text (heads h.0.tokens_are))
+
+pub is_applied : (known : List Named) (ts : List Read) (args : List Argument) → IsArguments known ts args → IsLast known (spec.apply_word ∷ ts) (applied args)
+is_applied known ts args h =
+    (record { tokens_are = ap (λ (x : List Read). spec.apply_word ∷ x) h.tokens_are; well_written = h.are_arguments }, h.are_known)
+
+pub no_word : (known : List Named) (t : Read) (ts : List Read) → (t ≡ spec.apply_word → ⊥) → (t ≡ spec.gives_word → ⊥) → HasNoLast known (t ∷ ts)
+no_word known t ts a g no_last h = h
+no_word known t ts a g (applied args) h = a (heads h.0.tokens_are)
+no_word known t ts a g (given_out names) h = g (heads h.0.tokens_are)
+
+pub no_tokens : (known : List Named) → HasNoLast known []
+no_tokens known no_last h = h
+no_tokens known (applied args) h = (let e : [] ≡ spec.apply_word ∷ arguments_tokens args = h.0.tokens_are in cc)
+no_tokens known (given_out names) h = (let e : [] ≡ spec.gives_word ∷ names_tokens names = h.0.tokens_are in cc)
+
+-- names of earlier lines
+some_known : (known : List Named) (w : List ℕ) → is_some (tree_named known w) ≡ true → IsKnown known w
+some_known known w h none = true≢false (sym h ∙ ap is_some none)
+
+known_some : (known : List Named) (w : List ℕ) → IsKnown known w → is_some (tree_named known w) ≡ true
+known_some known w h = at (tree_named known w) h where
+  at : (o : Option Derivation) → (o ≡ None → ⊥) → is_some o ≡ true
+  at None n = absurd (n refl)
+  at (Some d) n = refl
+
+record Lists (known : List Named) (spelled : List (List ℕ) → List Read) (ts : List Read) (ws : List (List ℕ)) : Type 0 where
+  tokens_are : ts ≡ spelled ws
+  are_names : AreNames ws
+  are_known : AllByRecursion (IsKnown known) ws
+
+name_here : (known : List Named) (t : Read) (w : List ℕ) → spec.known_name known t ≡ Some w → (t ≡ word w) × IsTrue (is_name w) × IsKnown known w
+name_here known t w e =
+    let named = if_some (is_name_token t) (if is_some (tree_named known t.1) then Some t.1 else None) e in
+    let there = if_some (is_some (tree_named known t.1)) (Some t.1) named.1 in
+    let same : t.1 ≡ w = (let h : Some t.1 ≡ Some w = there.1 in cc) in
+    let name = name_is_word t named.0 in
+    (name.0 ∙ ap word same, subst (λ (x : List ℕ). IsTrue (is_name x)) same name.1, subst (IsKnown known) same (some_known known t.1 there.0))
+
+name_there : (known : List Named) (w : List ℕ) → IsTrue (is_name w) → IsKnown known w → spec.known_name known (word w) ≡ Some w
+name_there known w name there =
+    if_true (is_name w) (if is_some (tree_named known w) then Some w else None) None name ∙ if_true (is_some (tree_named known w)) (Some w) None (known_some known w there)
+
+further_listed : (known : List Named) (ts : List Read) (ws : List (List ℕ)) → spec.further_known known ts ≡ Some ws → Lists known further_names ts ws
+further_listed known [] ws e =
+    let none : [] ≡ ws = (let h : Some [] ≡ Some ws = e in cc) in
+    subst (Lists known further_names []) none (record { tokens_are = refl; are_names = tt; are_known = tt })
+further_listed known (c ∷ []) ws e = absurd (cc)
+further_listed known (c ∷ (t ∷ ts)) ws e =
+    let comma = if_some ((c.0 == 2) && bytes_eq c.1 (44 ∷ [])) (with_first (spec.known_name known t) (spec.further_known known ts)) e in
+    let parts = with_some (spec.known_name known t) (spec.further_known known ts) comma.1 in
+    let rest = further_listed known ts parts.1 parts.3 in
+    let here = name_here known t parts.0 parts.2 in
+    let ec = comma_is c comma.0 in
+    let et = here.0 in
+    subst (Lists known further_names (c ∷ (t ∷ ts))) (sym parts.4)
+    (record { tokens_are = λ i. ec i ∷ (et i ∷ rest.tokens_are i); are_names = (here.1, rest.are_names); are_known = (here.2, rest.are_known) })
+
+further_found : (known : List Named) (ws : List (List ℕ)) → AreNames ws → AllByRecursion (IsKnown known) ws → spec.further_known known (further_names ws) ≡ Some ws
+further_found known [] names there = refl
+further_found known (w ∷ ws) names there =
+    let first = name_there known w names.0 there.0 in
+    let rest = further_found known ws names.1 there.1 in
+    λ i. with_first (first i) (rest i)
+
+names_listed : (known : List Named) (ts : List Read) (ws : List (List ℕ)) → spec.known_names known ts ≡ Some ws → Lists known names_tokens ts ws
+names_listed known [] ws e =
+    let none : [] ≡ ws = (let h : Some [] ≡ Some ws = e in cc) in
+    subst (Lists known names_tokens []) none (record { tokens_are = refl; are_names = tt; are_known = tt })
+names_listed known (t ∷ ts) ws e =
+    let parts = with_some (spec.known_name known t) (spec.further_known known ts) e in
+    let rest = further_listed known ts parts.1 parts.3 in
+    let here = name_here known t parts.0 parts.2 in
+    let et = here.0 in
+    subst (Lists known names_tokens (t ∷ ts)) (sym parts.4)
+    (record { tokens_are = λ i. et i ∷ rest.tokens_are i; are_names = (here.1, rest.are_names); are_known = (here.2, rest.are_known) })
+
+names_found : (known : List Named) (ws : List (List ℕ)) → AreNames ws → AllByRecursion (IsKnown known) ws → spec.known_names known (names_tokens ws) ≡ Some ws
+names_found known [] names there = refl
+names_found known (w ∷ ws) names there =
+    let first = name_there known w names.0 there.0 in
+    let rest = further_found known ws names.1 there.1 in
+    λ i. with_first (first i) (rest i)
+
+pub is_given : (known : List Named) (ts : List Read) (ws : List (List ℕ)) → spec.known_names known ts ≡ Some ws → IsLast known (spec.gives_word ∷ ts) (given_out ws)
+is_given known ts ws e =
+    let listed = names_listed known ts ws e in
+    (record { tokens_are = ap (λ (x : List Read). spec.gives_word ∷ x) listed.tokens_are; well_written = listed.are_names }, listed.are_known)
+
+pub no_given : (known : List Named) (ts : List Read) → spec.known_names known ts ≡ None → HasNoLast known (spec.gives_word ∷ ts)
+no_given known ts none no_last h = h
+no_given known ts none (applied args) h = words_apart (word_text (sym (heads h.0.tokens_are)))
+no_given known ts none (given_out names) h =
+    let found = ap (spec.known_names known) (tails h.0.tokens_are) ∙ names_found known names h.0.well_written h.1 in
+    let clash : None ≡ Some names = sym none ∙ found in
+    cc
+
+pub false_case : (P : Type 0) {Q : Type 0} (b : Bool) → MatchBool b P Q → b ≡ false → Q
+false_case P true h e = absurd (true≢false e)
+false_case P false h e = h
+
+pub empty_list : {A B : Type 0} (f : A → B) (xs : List A) → map f xs ≡ [] → length xs ≡ 0
+empty_list f [] e = refl
+empty_list f (x ∷ xs) e = absurd (let h : f x ∷ map f xs ≡ [] = e in cc)

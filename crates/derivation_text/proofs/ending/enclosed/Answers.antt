@@ -1,0 +1,13 @@
+use Rattle.std.proofs.Common.{map, take, drop, ◌+◌}
+use Rattle.notation_parser.specs.View.{token}
+use Rattle.derivation_text.proofs.NodeLemmas.{empty_map, not_when}
+use Rattle.derivation_text.proofs.EndingLemmas.{no_front_form}
+use Rattle.derivation_text.proofs.ending.enclosed.Goals as goal
+
+pub returns-then-form-eq0-clause-front : goal.returns-then-form-eq0-clause-front
+returns-then-form-eq0-clause-front c known =
+    no_front_form known (map token c.args.tokens.now) _ _ (c.in-Some.ensures).1 (λ f. f.some (empty_map token (take c.in-Some.place c.args.tokens.now) c.if-form-eq0.true))
+
+pub returns-then-not-none_reserved-clause-front : goal.returns-then-not-none_reserved-clause-front
+returns-then-not-none_reserved-clause-front c known =
+    no_front_form known (map token c.args.tokens.now) _ _ (c.in-Some.ensures).1 (λ f. not_when c.none_reserved.ensures c.if-not-none_reserved.true f.none_reserved)
