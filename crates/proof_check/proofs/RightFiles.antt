@@ -1,5 +1,5 @@
 -- A file stands for one theory, one list of statements and one list of steps at most.
-use Rattle.std.proofs.Common.{◌≡◌, ◌≢◌, ℕ, List, [], ◌∷◌, map, Option, Some, None, refl, ap, sym, ◌∙◌, subst}
+use Rattle.std.proofs.Common.{◌≡◌, ◌≢◌, ℕ, List, [], ◌∷◌, map, length, Option, Some, None, refl, ap, sym, ◌∙◌, subst}
 use Rattle.std.specs.Prelude.{MatchOption}
 use Rattle.std.specs.List.{AllByRecursion}
 use Rattle.binding_terms.specs.Signature.{Signature}
@@ -31,6 +31,7 @@ use Rattle.judgments.specs.Bare.{IsBareTheory, IsBareStatement}
 use Rattle.judgments.specs.Theory.{IsTheoryOf}
 use Rattle.judgments.specs.Statements.{AreStatementsOf}
 use Rattle.proof_check.specs.Steps.{AreStepsOf}
+use Rattle.proof_check.proofs.LeadsLemmas.{proved_have_one}
 use Rattle.proof_check.specs.File.{IsFileOf, IsBuiltFileOf, IsRightSoFar, IsOnlyFile}
 
 -- what is found is the one that is so in another sense, which comes to the same
@@ -145,3 +146,12 @@ signature_there portions sig th sts steps is = is.1
 pub signature_back : (portions : List PlainPortion) (sig : Signature) → SignaturesAreUnique → IsSignatureOf portions sig → (th : Theory) (sts : List Theorem) (steps : List Step)
     → IsBuiltFileOf portions th sts steps → (th.sig ≡ sig) × IsBuiltFileOf portions th sts steps
 signature_back portions sig only told th sts steps is = (only portions th.sig sig is.0.signature told, is)
+
+-- a file one of whose statements has not one conclusion has no proofs
+pub not_one : (portions : List PlainPortion) (one : Theory) (ones : List Theorem)
+    → ((sts : List Theorem) → AreStatementsOf portions one sts → AllByRecursion IsBareStatement sts → sts ≡ ones)
+    → (AllByRecursion (λ st. length st.outputs ≡ 1) ones → ⊥)
+    → (th : Theory) (sts : List Theorem) (steps : List Step) → (th ≡ one) × IsBuiltFileOf portions th sts steps → ⊥
+not_one portions one ones only never th sts steps is =
+    let same : sts ≡ ones = only sts (subst (λ (t : Theory). AreStatementsOf portions t sts) is.0 is.1.0.are_statements) is.1.1.are_bare in
+    never (subst (AllByRecursion (λ st. length st.outputs ≡ 1)) same (proved_have_one th sts steps is.1.0.proves))

@@ -59,6 +59,18 @@ fn prove(
     }
 }
 
+/// Whether each statement has one conclusion.
+fn have_one_conclusion(statements: &[Statement]) -> bool
+    ensures { IsTrue result ↔ AllByRecursion (λ st. length st.outputs ≡ 1) (map plain_statement statements.now) }
+{
+    for statement in statements {
+        if statement.outputs.len() != 1 {
+            return false;
+        }
+    }
+    true
+}
+
 /// The proofs of a file whose statements are told.
 fn proofs_of(
     alloc: Global,
@@ -71,6 +83,7 @@ fn proofs_of(
     requires bare { IsBareTheory (theory system) }
     requires statements { AreStatementsOf (outlined outline.now) (theory system) (map plain_statement statements.items) }
     requires bare_statements { AllByRecursion IsBareStatement (map plain_statement statements.items) }
+    requires ones { AllByRecursion (λ st. length st.outputs ≡ 1) (map plain_statement statements.items) }
     requires count { vec_len statements < 2 ^ 32 }
     ensures { IfOk result (IsOnlyFile (λ th sts steps. (th ≡ theory system) × (sts ≡ map plain_statement statements.items)
         × IsFileOf (outlined outline.now) th sts steps)) }
@@ -96,6 +109,9 @@ fn theorems_of(
         Some(statements) => {
             if statements.len() >= 1 << 32 {
                 return Err(NoMemory);
+            }
+            if !have_one_conclusion(&statements) {
+                return Ok(None);
             }
             proofs_of(alloc, outline, system, statements)
         }

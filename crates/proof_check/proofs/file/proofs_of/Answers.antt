@@ -9,7 +9,7 @@ pub steps_of-requires : goal.steps_of-requires
 steps_of-requires c = rw c.deref.ensures.value (plain_of _ _ _ c.requires.bare c.requires.statements.each c.requires.bare_statements)
 
 pub prove-requires-clause-provable : goal.prove-requires-clause-provable
-prove-requires-clause-provable c = all_provable _ _ _ c.requires.statements.each c.requires.bare_statements
+prove-requires-clause-provable c = all_provable _ _ _ c.requires.statements.each c.requires.bare_statements c.requires.ones
 
 pub returns-in-Some : goal.returns-in-Some
 returns-in-Some c =

@@ -1,13 +1,10 @@
 use Rattle.std.proofs.lemmas.Result.{IfOk-weaker}
-use Rattle.proof_check.proofs.BareLemmas.{bare_in, apart_in}
+use Rattle.proof_check.proofs.BareLemmas.{bare_in}
 use Rattle.proof_check.proofs.RightFiles.{only_as, theory_there, theory_back}
 use Rattle.proof_check.proofs.file.theory_of.Goals as goal
 
-pub system_of-requires-clause-bare : goal.system_of-requires-clause-bare
-system_of-requires-clause-bare c = bare_in _ c.requires.bare
-
-pub system_of-requires-clause-apart : goal.system_of-requires-clause-apart
-system_of-requires-clause-apart c = apart_in c.args.sig c.requires.signature.written.names.apart
+pub system_of-requires : goal.system_of-requires
+system_of-requires c = bare_in _ c.requires.bare
 
 pub returns-in-Some : goal.returns-in-Some
 returns-in-Some c =

@@ -1,0 +1,23 @@
+use Rattle.std.proofs.lemmas.Result.{IfOk-weaker}
+use Rattle.sasylf_command.proofs.Judged.{takes_at, derived_all, text_at, no_text_at}
+use Rattle.sasylf_command.proofs.judging.theorem_text.Goals as goal
+
+pub given_trees-requires-clause-takes : goal.given_trees-requires-clause-takes
+given_trees-requires-clause-takes c = takes_at _ _ _ (rw c.statements.ensures at c.index-statement.ensures) c.requires.number c.requires.built.are_bare
+
+pub run_text-requires-clause-derived : goal.run_text-requires-clause-derived
+run_text-requires-clause-derived c =
+    let told = rw (c.in-Some.is, c.system-2.ensures) at c.in_ok-trees.ensures in
+    rw c.in_ok-inputs-in-Some.ensures (derived_all _ _ told.1)
+
+pub returns-in_ok-inputs-in-Some : goal.returns-in_ok-inputs-in-Some
+returns-in_ok-inputs-in-Some c =
+    let told = rw (c.in-Some.is, c.system-2.ensures) at c.in_ok-trees.ensures in
+    IfOk-weaker _ _ _
+    (text_at c.args.accepted.now c.args.theorem.0 _ c.args.lines.now _ _ (rw c.statements.ensures at c.index-statement.ensures) c.in_ok-inputs-in-Some.ensures told.0 told.2)
+    c.run_text.ensures
+
+pub returns-in-None : goal.returns-in-None
+returns-in-None c =
+    let none = rw (c.in-None.is, c.system-2.ensures) at c.in_ok-trees.ensures in
+    no_text_at c.args.accepted.now c.args.theorem.0 _ c.args.lines.now (rw c.statements.ensures at c.index-statement.ensures) none
