@@ -53,7 +53,7 @@ mutual
 
   ends_within : (th : Theory) (sts : List Theorem) (k n i : ℕ) (scope : Names) (scoped : List JudgmentScheme) (last : Option JudgmentScheme) (steps : List Step)
       → Leads th sts (within k scope scoped last) steps (outside n) → k ≤ i → i < n → HasOne sts i
-  ends_within th sts k n i scope scoped last [] x low high = elim x []
+  ends_within th sts k n i scope scoped last [] x low high = elim x [ ]
   ends_within th sts k n i scope scoped last (first ∷ steps) (one_step (by_a_rule form cited rule right) rest) low high = ends_within th sts k n i _ _ _ steps rest low high
   ends_within th sts k n i scope scoped last (first ∷ steps) (one_step (ends {st = st} {form = form} here goal) rest) low high = elim (cases_order k i) [
     | inl same ↦ subst (HasOne sts) same (one_at sts k st here (goal_is_one th st scope form goal))

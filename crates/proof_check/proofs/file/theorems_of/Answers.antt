@@ -2,8 +2,8 @@ use Rattle.std.proofs.lemmas.Result.{IfOk-weaker}
 use Rattle.proof_check.proofs.RightFiles.{only_as, statements_there, statements_back, no_statements, not_one}
 use Rattle.proof_check.proofs.file.theorems_of.Goals as goal
 
-pub returns-else-have_one_conclusion : goal.returns-else-have_one_conclusion
-returns-else-have_one_conclusion c =
+pub returns-else-not-have_one_conclusion : goal.returns-else-not-have_one_conclusion
+returns-else-not-have_one_conclusion c =
     let told = rw c.in-Some.is at c.in_ok-statements.ensures in
     IfOk-weaker _ _ _ (λ found is. only_as _ _ found (statements_there _ _ _ c.requires.bare told.1) (statements_back _ _ _ told.2) is) c.proofs_of.ensures
 
