@@ -4,7 +4,7 @@ use Rattle.scheme_terms.specs.Forms.{ContextValue, Names, Instance}
 use Rattle.scheme_terms.specs.Instance.{FitsScope}
 use Rattle.rule_schemes.specs.Rules.{Theory}
 use Rattle.rule_schemes.specs.Derivation.{Derives}
-use Rattle.rule_schemes.specs.Statement.{StatementInput, given, Theorem, InputTree, derived, term, IsInstantiation}
+use Rattle.rule_schemes.specs.Statement.{Theorem, InputTree, derived, term, IsInstantiation}
 
 -- the value of no context
 abbrev pub no_context_value : ContextValue
