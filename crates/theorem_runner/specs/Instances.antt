@@ -15,7 +15,7 @@ abbrev pub IsDerived : Theory → InputTree → Type 0
 IsDerived th (derived d) = Derives th d
 IsDerived th (term t) = Unit {0}
 
--- a ground instance of the proof's scope that gives the inputs
+-- an instance of the proof's scope that gives the inputs
 abbrev pub Gives : Theory → Theorem → Names → ContextValue → List InputTree → Instance → Type 0
 Gives th st scope v xs inst = FitsScope th.sig scope inst × IsInstantiation th st v inst xs
 
