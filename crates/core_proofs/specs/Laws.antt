@@ -53,3 +53,9 @@ MakesDerives =
     SpeaksOfNoContext th → slice_get statements k ≡ Some st → scope.root ≡ Closed → scope.knowns ≡ [] → FitsScope th.sig scope inst →
     LastIsDerived th inst last last_made → AreDerived th inst scoped ds →
     Leads th statements (within k scope scoped last) steps to → Makes th inst ds last_made steps made → DerivesGoal th st scope inst made
+
+-- Right steps lead to one standing only.
+abbrev pub LeadsToOne : Type 0
+LeadsToOne =
+    (th : Theory) (statements : List Theorem) (steps : List Step) (at to other : Standing) →
+    Leads th statements at steps to → Leads th statements at steps other → to ≡ other

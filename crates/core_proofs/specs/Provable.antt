@@ -1,6 +1,6 @@
 -- The statements that can be proved so far, and where their proofs stand: no context, no parameter, no syntax input. To be held
 -- against docs/notation.md, 'Rules and statements' and 'Steps'.
-use Rattle.std.specs.Prelude.{◌≡◌, ◌≢◌, ◌<◌, ◌≤◌, ◌⊎◌, ℕ, List, length, Option, Some, slice_get, MatchOption}
+use Rattle.std.specs.Prelude.{◌≡◌, ◌≢◌, ◌<◌, ◌≤◌, ◌⊎◌, ℕ, List, length, Some, slice_get, MatchOption}
 use Rattle.std.specs.List.{AllByRecursion}
 use Rattle.binding_terms.specs.Numbered.{AllNumbered}
 use Rattle.scheme_terms.specs.Forms.{Names}
@@ -9,8 +9,7 @@ use Rattle.pattern_unify.specs.Plain.{HaveNoParameters}
 use Rattle.rule_schemes.specs.Rules.{JudgmentScheme, Rule, Theory}
 use Rattle.rule_schemes.specs.Statement.{StatementInput, given, syntax_input, Theorem, IsStatement, IsTheoremScope, HasNoFault, IsOfInputs, IsOfOutputs}
 use Rattle.core_proofs.specs.RuleStep.{IsRuleInstance, AreCited}
-use Rattle.core_proofs.specs.Plain.{IsPlainScope, IsPlainForm}
-use Rattle.core_proofs.specs.Proof.{IsProofScope, IsStepForm, Standing, outside, within}
+use Rattle.core_proofs.specs.Proof.{IsProofScope, IsStepForm}
 
 -- the input is a derivation
 abbrev pub IsOfDerivation : StatementInput → Type 0

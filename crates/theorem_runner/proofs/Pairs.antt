@@ -1,7 +1,7 @@
 -- The inputs of a statement with what is given for them.
 use Rattle.std.specs.Prelude.{List, [], ◌∷◌, Option, Some, None}
 use Rattle.rule_schemes.specs.Derivation.{judgment}
-use Rattle.rule_schemes.specs.Statement.{StatementInput, given, syntax_input, InputTree, derived, term}
+use Rattle.rule_schemes.specs.Statement.{StatementInput, given, InputTree, derived}
 use Rattle.scheme_match.specs.Matching.{Matched, judgments}
 
 -- the pairs, unless a term is among them or there are more of one kind

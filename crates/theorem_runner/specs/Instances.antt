@@ -4,7 +4,7 @@ use Rattle.scheme_terms.specs.Forms.{ContextValue, Names, Instance}
 use Rattle.scheme_terms.specs.Instance.{FitsScope}
 use Rattle.rule_schemes.specs.Rules.{Theory}
 use Rattle.rule_schemes.specs.Derivation.{Derives}
-use Rattle.rule_schemes.specs.Statement.{StatementInput, given, Theorem, InputTree, derived, term, IsInstantiation}
+use Rattle.rule_schemes.specs.Statement.{Theorem, InputTree, derived, term, IsInstantiation}
 
 -- the value of no context
 abbrev pub no_context_value : ContextValue
@@ -15,7 +15,7 @@ abbrev pub IsDerived : Theory → InputTree → Type 0
 IsDerived th (derived d) = Derives th d
 IsDerived th (term t) = Unit {0}
 
--- a ground instance of the proof's scope that gives the inputs
+-- an instance of the proof's scope that gives the inputs
 abbrev pub Gives : Theory → Theorem → Names → ContextValue → List InputTree → Instance → Type 0
 Gives th st scope v xs inst = FitsScope th.sig scope inst × IsInstantiation th st v inst xs
 
