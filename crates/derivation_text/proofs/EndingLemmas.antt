@@ -1,6 +1,6 @@
 -- The arguments and names of the last line of a text.
-use Rattle.std.proofs.Common.{◌≡◌, ◌≢◌, ◌<◌, ◌≤◌, ◌+◌, ℕ, length-drop, zero, suc, ◌==◌, Bool, true, false, ◌&&◌, IsTrue, IsFalse, List, [], ◌∷◌, ◌++◌, length, map, take, drop, refl, ap, ◌∙◌, sym, subst, arith, get_or, Some, None, nat_eq, if◌then◌else◌, option_map, append-nil, append_assoc, inl, inr, true≢false, drop-cons, add-one, codes}
-use Rattle.std.specs.Prelude.{Option, ◌⊎◌, is_some, Result, Ok, Err, IfOk, MatchBool}
+use Rattle.std.proofs.Common.{◌≡◌, ◌<◌, ◌≤◌, ◌+◌, ℕ, length-drop, ◌==◌, Bool, true, false, ◌&&◌, IsTrue, List, [], ◌∷◌, ◌++◌, length, map, take, drop, refl, ap, ◌∙◌, sym, subst, arith, get_or, Some, None, nat_eq, if◌then◌else◌, option_map, append-nil, append_assoc, inl, inr, true≢false, drop-cons, add-one}
+use Rattle.std.specs.Prelude.{Option, is_some, Result, Ok, Err, IfOk, MatchBool}
 use Rattle.std.proofs.Math.Seq.{take-suc}
 use Rattle.std.proofs.lemmas.List.{map-append}
 use Rattle.std.specs.List.{AllByRecursion}

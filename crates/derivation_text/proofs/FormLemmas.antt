@@ -1,30 +1,28 @@
 -- What forms without names and contexts read as.
-use Rattle.std.proofs.Common.{◌≡◌, ◌≢◌, ◌≤◌, ◌+◌, ℕ, List, [], ◌∷◌, ◌++◌, length, map, refl, ap, ◌∙◌, sym, subst, Some, None, slice_get, zero, suc, reverse}
+use Rattle.std.proofs.Common.{◌≡◌, ◌≤◌, ◌+◌, ℕ, List, [], ◌∷◌, ◌++◌, length, map, refl, ap, ◌∙◌, sym, subst, Some, None, slice_get, zero, suc}
 use Rattle.std.specs.Prelude.{Option, MatchOption}
 use Rattle.std.specs.List.{AllByRecursion}
-use Rattle.binding_terms.specs.Signature.{Signature, Place, slots, binders}
-use Rattle.binding_terms.specs.Tree as trees
+use Rattle.binding_terms.specs.Signature.{Signature, slots, binders}
 use Rattle.binding_terms.specs.Scope.{IsTerm, AreParts, bound}
 use Rattle.binding_terms.specs.declared.grammar.Item.{Item}
-use Rattle.binding_terms.specs.declared.grammar.Item.TheVariants.{Word, Slot, Binder}
-use Rattle.scheme_terms.specs.SchemeTree.{SchemeTree, meta, known, local, con, Parts, no_parts, part}
+use Rattle.scheme_terms.specs.SchemeTree.{SchemeTree, Parts}
 use Rattle.scheme_terms.specs.Forms.{KnownVariable, Instance}
 use Rattle.scheme_terms.specs.Instance.{instance_of, parts_instance}
 use Rattle.scheme_terms.specs.Context.{AreArguments, IsValue, scope_of}
 use Rattle.scheme_terms.specs.declared.scheme.MetaDecl.{MetaDecl}
 use Rattle.scheme_terms.specs.declared.scheme.Root.TheVariants.{Closed}
 use Rattle.rule_schemes.specs.Plain.{IsPlainSignature}
-use Rattle.rule_schemes.specs.Reading.{Token, Variable, ReadingScope, ReadsTerm, group, metavariable, variable, production, ReadsItems, all_read, terminal, binder, slot, slot_variables, variables_of, Means, ReadsForm, form_end, form_terminal, form_context, form_slot, ReadsJudgment, without_context, with_context}
-use Rattle.rule_schemes.specs.Rules.{JudgmentScheme, JudgmentValue, Theory, IsJudgment, argument_slots, root_of}
+use Rattle.rule_schemes.specs.Reading.{Token, Variable, ReadingScope, ReadsTerm, group, metavariable, variable, production, ReadsItems, all_read, terminal, binder, slot, slot_variables, Means, ReadsForm, form_end, form_terminal, form_context, form_slot, ReadsJudgment, without_context, with_context}
+use Rattle.rule_schemes.specs.Rules.{JudgmentScheme, Theory, IsJudgment, argument_slots, root_of}
 use Rattle.rule_schemes.specs.View.{judgment_scheme}
 use Rattle.rule_schemes.specs.declared.rule.JScheme.{JScheme}
 use Rattle.rule_schemes.specs.declared.reading.Written.TheVariants as writings
 use Rattle.binding_terms.specs.declared.grammar.CatId.{CatId}
-use Rattle.rule_schemes.specs.Said.{want_judgment, a_judgment, Want, Written, a_term, a_context, Said, ReadsWanted, reads_term, reads_judgment, reads_context, Reads, ReadsAs, HasOneReading}
+use Rattle.rule_schemes.specs.Said.{want_judgment, a_judgment, Want, Written, a_term, a_context, Said, ReadsWanted, reads_term, reads_judgment, reads_context, ReadsAs, HasOneReading}
 use Rattle.rule_schemes.specs.AtValue.{judgment_at, no_names}
 use Rattle.rule_schemes.specs.declared.rule.Judgment.{Judgment}
 use Rattle.rule_schemes.specs.declared.reading.Reading.{Reading}
-use Rattle.rule_schemes.specs.declared.reading.Reading.TheVariants.{One, NoReading, Ambiguous, TooLong}
+use Rattle.rule_schemes.specs.declared.reading.Reading.TheVariants.{One, NoReading, Ambiguous}
 use Rattle.notation_parser.specs.Answer.{IsAnswer}
 use Rattle.notation_parser.specs.View.{written}
 use Rattle.derivation_text.specs.Bare.{HasNoContexts}

@@ -1,6 +1,5 @@
 -- The inputs that the arguments of an `apply` line give.
 use Rattle.std.proofs.Common.{◌≡◌, ◌≤◌, ◌+◌, ℕ, List, [], ◌∷◌, length, map, refl, ap, ◌∙◌, sym, subst, arith, Some, None}
-use Rattle.std.specs.Prelude.{Option}
 use Rattle.std.specs.List.{AllByRecursion}
 use Rattle.rule_schemes.specs.Derivation.{Derivation, size, sizes, height}
 use Rattle.rule_schemes.specs.Rules.{Theory}
@@ -11,7 +10,7 @@ use Rattle.derivation_text.specs.Forms.{Argument, by_name, enclosed}
 use Rattle.derivation_text.specs.Given.{given_trees, IsWithin, HasNoInputs}
 use Rattle.derivation_text.specs.Found.{with_first}
 use Rattle.derivation_text.specs.Inputs.{StandForAll, GivesInputs, AreWithin, nodes, IsLow, HEIGHT}
-use Rattle.derivation_text.specs.Valid.{Contents, Last, applied, nothing_around, tree_named}
+use Rattle.derivation_text.specs.Valid.{Contents, applied, nothing_around, tree_named}
 use Rattle.derivation_text.proofs.CitedLemmas.{with_some}
 
 -- the trees for which arguments stand

@@ -1,22 +1,22 @@
 -- A line with a judgment, from its parts and what these make.
-use Rattle.std.proofs.Common.{◌≡◌, ◌<◌, ℕ, Bool, true, false, IsTrue, List, [], ◌∷◌, ◌++◌, length, map, refl, ap, ◌∙◌, sym, subst, arith, Some, None, option_map, cond, nat_lt, codes, true≢false}
+use Rattle.std.proofs.Common.{◌≡◌, ℕ, Bool, true, false, List, ◌∷◌, ◌++◌, map, refl, ap, ◌∙◌, sym, subst, Some, None, option_map, cond, nat_lt, codes, true≢false}
 use Rattle.std.specs.Prelude.{Option, is_some, MatchOption, Result, Ok, Err, IfOk, not, ◌+◌}
 use Rattle.std.proofs.lemmas.List.Recursion.{is_position_or_len}
 use Rattle.rule_schemes.specs.Said.{Said, a_judgment}
-use Rattle.std.specs.List.{AllByRecursion, AllZip, position, position_or_len}
+use Rattle.std.specs.List.{position, position_or_len}
 use Rattle.std.proofs.lemmas.List.{length-map}
 use Rattle.rule_schemes.specs.Rules.{Theory, JudgmentValue, JudgmentScheme, IsJudgment}
-use Rattle.rule_schemes.specs.Derivation.{Derivation, Derives}
+use Rattle.rule_schemes.specs.Derivation.{Derivation}
 use Rattle.rule_schemes.specs.Reading.{Token, word}
 use Rattle.rule_schemes.specs.AtValue.{judgment_at}
 use Rattle.derivation_text.specs.Bare.{HasNoContexts}
 use Rattle.derivation_text.specs.Forms.{Says, node_line, AreNames, on_tokens, colon}
 use Rattle.derivation_text.specs.Valid.{NamesTree, MakesTree, nothing_around, tree_named, rule_named, IsMade}
-use Rattle.derivation_text.specs.Found.{HasParts, HasNoParts, IsPartsTree, HasNoPartsTree, HasNoNamedTree, HasValue, HasNoJudgment, ReadsJudgment, AllDerive, cited_trees}
+use Rattle.derivation_text.specs.Found.{HasParts, HasNoParts, IsPartsTree, HasNoPartsTree, HasNoNamedTree, HasValue, HasNoJudgment, ReadsJudgment, cited_trees}
 use Rattle.derivation_text.specs.Making.{HasNoTree}
 use Rattle.derivation_text.specs.declared.derivs.Named.{Named}
 use Rattle.derivation_text.proofs.NodeLemmas.{parts_once}
-use Rattle.derivation_text.proofs.CitedLemmas.{cited_from, cited_to, cited_derive}
+use Rattle.derivation_text.proofs.CitedLemmas.{cited_from, cited_to}
 use Rattle.derivation_text.proofs.FormLemmas.{reads_closed}
 
 pub none_of : {A B : Type 0} (f : A → B) (o : Option A) (p : Option B) → option_map f o ≡ p → is_some o ≡ false → p ≡ None

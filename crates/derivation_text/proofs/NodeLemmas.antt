@@ -1,11 +1,11 @@
 -- The parts of a line with a judgment are found by its first reserved word, and are the only ones.
-use Rattle.std.proofs.Common.{◌≡◌, ◌≢◌, ◌↔◌, ◌<◌, ◌+◌, ℕ, ◌==◌, Bool, true, false, ◌&&◌, IsTrue, IsFalse, List, [], ◌∷◌, ◌++◌, length, map, refl, ap, ◌∙◌, sym, subst, arith, codes, true≢false, length-append}
+use Rattle.std.proofs.Common.{◌≡◌, ◌≢◌, ◌↔◌, ◌<◌, ◌+◌, ℕ, ◌==◌, Bool, true, false, ◌&&◌, IsTrue, IsFalse, List, [], ◌∷◌, ◌++◌, length, map, refl, ap, ◌∙◌, sym, subst, arith, codes, true≢false}
 use Rattle.std.proofs.lemmas.Bool.{eqb-true}
 use Rattle.std.proofs.lemmas.Slice.Eq.{bytes_eq-Decides}
 use Rattle.std.specs.Str.{bytes_eq}
 use Rattle.std.specs.List.{AllByRecursion}
 use Rattle.rule_schemes.specs.Reading.{Token, word}
-use Rattle.derivation_text.specs.Forms.{is_reserved, is_name, is_own_name, is_reserved_token, IsForm, colon}
+use Rattle.derivation_text.specs.Forms.{is_reserved, is_name, is_own_name, is_reserved_token, colon}
 use Rattle.derivation_text.specs.Found.{is_name_token, is_own_name_token, StopsForm, IsCut, HasParts, HasFormParts, HasNoParts, HasNoFormParts}
 
 abbrev NoneReserved : List Token → Type 0

@@ -1,19 +1,15 @@
 -- A source is a valid text in one way, and stands for one list of inputs.
 use Rattle.std.proofs.Common.{◌≡◌, ℕ, List, [], ◌∷◌, ◌++◌, refl, ap, ◌∙◌, sym, subst, inl, inr}
-use Rattle.std.specs.Prelude.{◌⊎◌}
-use Rattle.std.specs.List.{AllByRecursion}
-use Rattle.sy_base.specs.Tokens.{PlainToken}
 use Rattle.proof_lexer.proofs.UniqueLemmas.{tokens_unique}
 use Rattle.rule_schemes.specs.Rules.{Theory, IsSystemSoFar}
 use Rattle.rule_schemes.specs.Reading.{Token, word, punctuation}
-use Rattle.rule_schemes.specs.Statement.{Theorem, InputTree}
-use Rattle.derivation_text.specs.Bare.{HasNoContexts, TakesDerivations}
-use Rattle.derivation_text.specs.Ending.{IsFront, IsRest, IsArguments}
-use Rattle.derivation_text.specs.Forms.{Argument, by_name, enclosed, argument_tokens, further_arguments, arguments_tokens, further_names, names_tokens, APPLY, GIVES}
-use Rattle.derivation_text.specs.Inputs.{GivesInputs, StandsForInputs}
+use Rattle.derivation_text.specs.Bare.{HasNoContexts}
+use Rattle.derivation_text.specs.Ending.{IsRest, IsArguments}
+use Rattle.derivation_text.specs.Forms.{Argument, by_name, enclosed, argument_tokens, further_arguments, arguments_tokens, further_names, names_tokens}
+use Rattle.derivation_text.specs.Inputs.{GivesInputs}
 use Rattle.derivation_text.specs.Laws.{TextsAreUnique, TextGivesInputs, InputsAreUnique}
 use Rattle.derivation_text.specs.Lines.{Line, text_lines}
-use Rattle.derivation_text.specs.Valid.{Around, Contents, Last, no_last, applied, given_out, nothing_around, NamesTree, IsLast, AreValid, IsText}
+use Rattle.derivation_text.specs.Valid.{Around, Contents, Last, no_last, applied, given_out, nothing_around, IsLast, AreValid}
 use Rattle.derivation_text.specs.declared.derivs.Named.{Named}
 use Rattle.derivation_text.proofs.NodeLemmas.{heads, tails}
 use Rattle.derivation_text.proofs.EndingLemmas.{front_once, words_apart, word_text}

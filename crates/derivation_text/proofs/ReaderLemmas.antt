@@ -1,6 +1,6 @@
 -- The lines of a text, one after another.
-use Rattle.std.proofs.Common.{◌≡◌, ◌≢◌, ◌↔◌, ◌<◌, ◌≤◌, ◌+◌, ◌-◌, ℕ, take, drop, length-drop, length-append, length-take-le, append_assoc, Bool, true, false, IsTrue, List, [], ◌∷◌, ◌++◌, length, map, refl, ap, ◌∙◌, sym, subst, arith, Some, None, slice_get, inl, inr, true≢false, zero, suc}
-use Rattle.std.specs.Prelude.{Option, ◌⊎◌, not, MatchOption}
+use Rattle.std.proofs.Common.{◌≡◌, ◌↔◌, ◌≤◌, ◌+◌, ◌-◌, ℕ, take, drop, length-drop, length-append, length-take-le, append_assoc, Bool, true, false, IsTrue, List, [], ◌∷◌, ◌++◌, length, map, refl, ap, ◌∙◌, sym, subst, arith, Some, None, slice_get, inl, inr, true≢false, zero, suc}
+use Rattle.std.specs.Prelude.{Option, not, MatchOption}
 use Rattle.std.proofs.Math.Seq.{drop-append_seam}
 use Rattle.std.proofs.lemmas.List.{take_all, take-append-drop}
 use Rattle.proof_lexer.specs.View.{token_view}
@@ -9,12 +9,12 @@ use Rattle.derivation_text.specs.Splitting.{IsFirstLine}
 use Rattle.derivation_text.specs.Reader.{IsSeen}
 use Rattle.derivation_text.specs.declared.reader.Seen.{Seen}
 use Rattle.derivation_text.proofs.SplitLemmas.{begins}
-use Rattle.std.specs.List.{AllByRecursion, AllZip}
+use Rattle.std.specs.List.{AllByRecursion}
 use Rattle.binding_terms.specs.declared.grammar.Cat.{Cat}
 use Rattle.sy_base.specs.Tokens.{PlainToken, AreTokens}
 use Rattle.rule_schemes.specs.Rules.{Theory, JudgmentValue, IsSystemSoFar}
 use Rattle.rule_schemes.specs.Derivation.{Derivation, Derives, node, leaf, AllDerive as SubtreesDerive, IsNode}
-use Rattle.rule_schemes.specs.Reading.{Token, word}
+use Rattle.rule_schemes.specs.Reading.{Token}
 use Rattle.rule_schemes.specs.Said.{Want, want_context}
 use Rattle.rule_schemes.proofs.PlainLemmas.{AllByRecursion-append}
 use Rattle.derivation_check.specs.Parts.{subtrees_of}
@@ -23,18 +23,15 @@ use Rattle.derivation_text.specs.Ending.{HasNoLast}
 use Rattle.derivation_text.specs.Forms.{is_own_name, is_name, is_among, APPLY, GIVES, CONTEXT}
 use Rattle.derivation_text.specs.Found.{AllDerive, HasNoNamedTree}
 use Rattle.derivation_text.specs.Lines.{Line, text_lines}
-use Rattle.derivation_text.specs.Valid.{Around, Contents, Last, no_last, applied, given_out, nothing_around, NamesTree, MakesTree, IsMade, IsLast, AreValid, contexts_if, contexts_from, GivesContext, Begins, without_context, with_context, AreText, IsText, tree_named}
+use Rattle.derivation_text.specs.Valid.{Around, Contents, Last, no_last, applied, given_out, nothing_around, NamesTree, IsMade, IsLast, AreValid, contexts_if, contexts_from, GivesContext, Begins, without_context, with_context, IsText}
 use Rattle.derivation_text.specs.declared.derivs.Named.{Named}
-use Rattle.derivation_text.proofs.NodeLemmas.{heads, tails, and_right}
+use Rattle.derivation_text.proofs.NodeLemmas.{heads, and_right}
 use Rattle.derivation_text.proofs.CitedLemmas.{cited_derive}
 use Rattle.derivation_text.proofs.RuleLemmas.{no_leaf}
 use Rattle.derivation_text.proofs.LineLemmas.{says_parts, parts_tree, value_once, some_once}
 use Rattle.derivation_text.proofs.NodeLemmas.{parts_once}
-use Rattle.derivation_text.proofs.EndingLemmas.{front_once, words_apart, word_text}
-use Rattle.derivation_text.specs.Ending.{IsFront, IsRest, IsArguments}
 use Rattle.derivation_text.specs.Found.{IsPartsTree}
-use Rattle.derivation_text.specs.Forms.{Argument, further_arguments, arguments_tokens, further_names, names_tokens, on_tokens, IsArgument}
-use Rattle.derivation_text.specs.Valid.{IsKnownArgument}
+use Rattle.derivation_text.specs.Forms.{on_tokens}
 use Rattle.sy_base.specs.TokenLaws.{TokensAreUnique}
 use Rattle.rule_schemes.specs.Derivation.{Subtrees}
 

@@ -1,15 +1,15 @@
 -- Over a theory without contexts, a node of a rule is what the matching of its forms finds.
-use Rattle.std.proofs.Common.{◌≡◌, ◌↔◌, ◌<◌, ℕ, get_or, Bool, true, false, IsTrue, List, [], ◌∷◌, ◌++◌, length, map, refl, ap, ◌∙◌, sym, subst, Some, None, slice_get, option_map, inl, inr, arith, true≢false}
-use Rattle.std.specs.Prelude.{Option, MatchOption, is_some, ◌⊎◌}
+use Rattle.std.proofs.Common.{◌≡◌, ◌↔◌, ◌<◌, ℕ, get_or, IsTrue, List, [], ◌∷◌, ◌++◌, length, map, refl, ap, ◌∙◌, sym, subst, Some, None, slice_get, option_map, inl, inr, arith, true≢false}
+use Rattle.std.specs.Prelude.{Option, MatchOption, is_some}
 use Rattle.std.specs.List.{AllByRecursion, AllZip}
 use Rattle.std.proofs.lemmas.Option.{slice_get-map, slice_get-get_or}
 use Rattle.rule_schemes.specs.View.{rule}
 use Rattle.rule_schemes.specs.declared.rule.RuleScheme.{RuleScheme}
 use Rattle.binding_terms.specs.Signature.{Signature, slots}
 use Rattle.binding_terms.specs.Numbered.{AnyByRecursion, AllNumbered}
-use Rattle.scheme_terms.specs.Forms.{SchemeEntry, SchemeContext, Names, ContextValue, Instance}
-use Rattle.scheme_terms.specs.Context.{AreArguments, IsValue, scope_of}
-use Rattle.scheme_terms.specs.Instance.{FitsScope, IsKnownPlace}
+use Rattle.scheme_terms.specs.Forms.{SchemeEntry, Names, ContextValue, Instance}
+use Rattle.scheme_terms.specs.Context.{IsValue}
+use Rattle.scheme_terms.specs.Instance.{IsKnownPlace}
 use Rattle.scheme_terms.specs.SchemeScope.{AreSchemes, entry_variables, IsSchemeContext, AreExplicitEntries}
 use Rattle.scheme_terms.specs.View.{instance}
 use Rattle.scheme_terms.specs.declared.scheme.Inst.{Inst}
@@ -18,13 +18,12 @@ use Rattle.scheme_terms.specs.declared.scheme.Root.{Root}
 use Rattle.scheme_terms.specs.declared.scheme.Root.TheVariants.{Closed, Empty, Whole}
 use Rattle.binding_terms.specs.declared.grammar.CatId.{CatId}
 use Rattle.rule_schemes.specs.declared.rule.Judgment.{Judgment}
-use Rattle.rule_schemes.specs.Rules.{JudgmentScheme, JudgmentValue, Rule, Theory, IsJudgment, IsJudgmentScheme, IsRootOf, IsAssumption, IsOneEntry, IsItsEntry, IsInstance, IsAssumptionJudgment, IsSystemSoFar, RuleFits, StrictInJudgment, StrictInRule, argument_slots, root_of, rule_names}
-use Rattle.rule_schemes.specs.Derivation.{Derivation, node, leaf, judgment, Subtrees, Derives, IsNode, IsNodeOf, IsLeaf, AreInstances}
+use Rattle.rule_schemes.specs.Rules.{JudgmentScheme, JudgmentValue, Rule, Theory, IsJudgment, IsJudgmentScheme, IsRootOf, IsAssumption, IsOneEntry, IsItsEntry, IsSystemSoFar, RuleFits, StrictInJudgment, StrictInRule, argument_slots, root_of, rule_names}
+use Rattle.rule_schemes.specs.Derivation.{Derivation, node, leaf, judgment, Subtrees, Derives, IsNodeOf, IsLeaf, AreInstances}
 use Rattle.rule_schemes.proofs.PlainLemmas.{found}
 use Rattle.rule_schemes.proofs.DerivationLemmas.{derives_a_judgment}
 use Rattle.derivation_check.specs.Parts.{subtrees_of}
-use Rattle.derivation_text.proofs.FormLemmas.{all_at}
-use Rattle.scheme_match.specs.Matching.{Matched, judgments, Matching, ArgumentsFit, MakesEqual, IsMatch, IsOnlyMatch, StrictInPair, AreStrict}
+use Rattle.scheme_match.specs.Matching.{judgments, Matching, ArgumentsFit, MakesEqual, IsMatch, IsOnlyMatch, StrictInPair, AreStrict}
 use Rattle.derivation_text.specs.Bare.{HasNoContexts}
 use Rattle.derivation_text.specs.Making.{premise_pairs, with_premises, PremiseFits, HasNoTree}
 use Rattle.derivation_text.specs.Valid.{IsMade, nothing_around}

@@ -1,5 +1,5 @@
 -- What a contract sees of the lines that were read.
-use Rattle.std.specs.Prelude.{ℕ, List, map}
+use Rattle.std.specs.Prelude.{map}
 use Rattle.rule_schemes.specs.Reading.{Token}
 use Rattle.notation_parser.specs.View.{kind_number}
 use Rattle.derivation_text.specs.Forms as forms

@@ -1,10 +1,10 @@
 -- What functions inside the crate find in the last line of a text. No public clause cites it.
-use Rattle.std.specs.Prelude.{◌≡◌, ◌≢◌, ◌⊎◌, ◌<◌, ◌+◌, ℕ, ◌==◌, ◌&&◌, if◌then◌else◌, IsFalse, List, [], ◌∷◌, ◌++◌, length, map, take, drop, Option, Some, None, is_some, slice_get}
+use Rattle.std.specs.Prelude.{◌≡◌, ◌≢◌, ◌⊎◌, ◌+◌, ℕ, ◌==◌, ◌&&◌, if◌then◌else◌, IsFalse, List, [], ◌∷◌, ◌++◌, Option, Some, None, is_some}
 use Rattle.std.specs.List.{AllByRecursion}
 use Rattle.std.specs.Str.{bytes_eq}
 use Rattle.rule_schemes.specs.Reading.{Token, word, punctuation}
-use Rattle.derivation_text.specs.Forms.{APPLY, GIVES, Argument, by_name, enclosed, is_reserved_token, IsForm, IsBalanced, IsArgument, argument_tokens, further_arguments, arguments_tokens}
-use Rattle.derivation_text.specs.Valid.{tree_named, Last, no_last, applied, given_out, IsLast, IsKnownArgument}
+use Rattle.derivation_text.specs.Forms.{APPLY, GIVES, Argument, is_reserved_token, IsBalanced, IsArgument, argument_tokens, further_arguments, arguments_tokens}
+use Rattle.derivation_text.specs.Valid.{tree_named, Last, IsLast, IsKnownArgument}
 use Rattle.derivation_text.specs.Found.{is_name_token, with_first}
 use Rattle.derivation_text.specs.declared.derivs.Named.{Named}
 

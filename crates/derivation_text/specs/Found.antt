@@ -1,9 +1,9 @@
 -- What functions inside the crate find in the tokens of a line. No public clause cites it but for `AllDerive`.
-use Rattle.std.specs.Prelude.{◌≡◌, ◌≢◌, ℕ, ◌==◌, ◌&&◌, if◌then◌else◌, Bool, IsTrue, IsFalse, List, [], ◌∷◌, ◌++◌, Option, Some, None, option_map, codes}
+use Rattle.std.specs.Prelude.{◌≡◌, ℕ, ◌==◌, ◌&&◌, if◌then◌else◌, Bool, IsTrue, IsFalse, List, [], ◌∷◌, ◌++◌, Option, Some, None, option_map, codes}
 use Rattle.std.specs.List.{AllByRecursion}
 use Rattle.std.specs.Str.{bytes_eq}
 use Rattle.rule_schemes.specs.Derivation.{Derivation, Derives}
-use Rattle.rule_schemes.specs.Reading.{Token, word, punctuation}
+use Rattle.rule_schemes.specs.Reading.{Token, word}
 use Rattle.derivation_text.specs.Forms.{is_name, is_own_name, is_reserved_token, IsForm, colon}
 use Rattle.scheme_terms.specs.declared.scheme.Root.TheVariants.{Closed}
 use Rattle.rule_schemes.specs.Rules.{JudgmentScheme, JudgmentValue, Theory}

@@ -1,5 +1,5 @@
 -- What functions inside the crate say of the arguments of an `apply` line. No public clause cites it but for the last.
-use Rattle.std.specs.Prelude.{◌≤◌, ℕ, List, [], ◌∷◌, Option, Some, None}
+use Rattle.std.specs.Prelude.{◌≤◌, List, [], ◌∷◌, Option, Some, None}
 use Rattle.std.specs.List.{AllByRecursion}
 use Rattle.rule_schemes.specs.Derivation.{Derivation, sizes, height}
 use Rattle.rule_schemes.specs.Rules.{Theory}

@@ -4,7 +4,7 @@ use Rattle.std.specs.List.{AllByRecursion}
 use Rattle.scheme_terms.specs.SchemeTree.{SchemeTree}
 use Rattle.scheme_terms.specs.Instance.{instance_of}
 use Rattle.rule_schemes.specs.Rules.{Theory}
-use Rattle.rule_schemes.specs.Derivation.{Derivation, size, height}
+use Rattle.rule_schemes.specs.Derivation.{size, height}
 use Rattle.rule_schemes.specs.Statement.{Theorem, StatementInput, given, syntax_input, InputTree, derived, term}
 use Rattle.rule_schemes.specs.Said.{want_term, a_term}
 use Rattle.rule_schemes.specs.AtValue.{no_names}

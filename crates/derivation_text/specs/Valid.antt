@@ -1,8 +1,7 @@
 -- Which derivation texts are valid, and what their names stand for. To be held against docs/notation.md, 'Derivation text'.
-use Rattle.std.specs.Prelude.{◌≡◌, ◌≢◌, ◌⊎◌, ◌≤◌, ℕ, ◌+◌, Bool, true, List, [], ◌∷◌, ◌++◌, length, map, Option, Some, None, option_map, slice_get, find, position, MatchOption}
+use Rattle.std.specs.Prelude.{◌≡◌, ◌≢◌, ◌⊎◌, ◌≤◌, ℕ, ◌+◌, Bool, true, List, [], ◌∷◌, ◌++◌, length, Option, Some, None, option_map, slice_get, find, position}
 use Rattle.std.specs.List.{AllByRecursion, AllZip}
 use Rattle.std.specs.Str.{bytes_eq}
-use Rattle.binding_terms.specs.Signature.{Signature}
 use Rattle.binding_terms.specs.declared.grammar.Cat.{Cat}
 use Rattle.scheme_terms.specs.Forms.{SchemeContext, ContextValue}
 use Rattle.scheme_terms.specs.declared.scheme.Root.{Root}
@@ -15,7 +14,6 @@ use Rattle.rule_schemes.specs.Said.{Want, want_judgment, want_context, Written, 
 use Rattle.rule_schemes.specs.AtValue.{context_at, judgment_at}
 use Rattle.derivation_check.specs.Parts.{subtrees_of}
 use Rattle.derivation_text.specs.Lines.{Line, text_lines}
-use Rattle.derivation_text.specs.Forms as forms
 use Rattle.derivation_text.specs.Forms.{Argument, by_name, enclosed, Says, node_line, apply_line, gives_line, context_line}
 use Rattle.derivation_text.specs.declared.derivs.Named.{Named}
 

@@ -1,5 +1,5 @@
 -- Derivations whose text was worked out by hand, by which the definitions are tried.
-use Rattle.std.specs.Prelude.{◌≡◌, List, [], ◌∷◌, None, Some, false, codes}
+use Rattle.std.specs.Prelude.{◌≡◌, [], ◌∷◌, None, Some, false, codes}
 use Rattle.binding_terms.specs.Tree.{Tree, var, con, no_args, arg}
 use Rattle.binding_terms.specs.Signature.{Signature}
 use Rattle.binding_terms.specs.declared.grammar.Item.TheVariants.{Word, Slot, Binder}

@@ -1,4 +1,4 @@
-use Rattle.std.proofs.Common.{◌≡◌, ◌∙◌, map, ap, [], ◌∷◌}
+use Rattle.std.proofs.Common.{◌∙◌, map, ap, [], ◌∷◌}
 use Rattle.std.proofs.lemmas.List.{map-append}
 use Rattle.notation_parser.specs.View.{token}
 use Rattle.derivation_text.specs.Contents.{argument}

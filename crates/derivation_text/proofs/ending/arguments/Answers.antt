@@ -1,7 +1,7 @@
 use Rattle.std.proofs.Common.{◌≡◌, ◌++◌, List, map}
 use Rattle.notation_parser.specs.View.{token}
 use Rattle.derivation_text.specs.Contents.{argument}
-use Rattle.derivation_text.specs.Ending.{Given, HasNoFront, IsFront, IsRest, HasNoRest}
+use Rattle.derivation_text.specs.Ending.{Given, HasNoFront, IsFront, IsRest}
 use Rattle.derivation_text.specs.declared.ending.Argued.{Argued}
 use Rattle.derivation_text.proofs.LineLemmas.{some_case}
 use Rattle.derivation_text.proofs.EndingLemmas.{no_rest_arguments, false_case, empty_list}

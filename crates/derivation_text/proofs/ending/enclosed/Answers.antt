@@ -1,4 +1,4 @@
-use Rattle.std.proofs.Common.{map, take, drop, ◌+◌}
+use Rattle.std.proofs.Common.{map, take}
 use Rattle.notation_parser.specs.View.{token}
 use Rattle.derivation_text.proofs.NodeLemmas.{empty_map, not_when}
 use Rattle.derivation_text.proofs.EndingLemmas.{no_front_form}

@@ -1,7 +1,6 @@
-use Rattle.std.proofs.Common.{◌≡◌, ◌∙◌, List, ℕ, map, sym, ap, subst, option_map}
+use Rattle.std.proofs.Common.{◌≡◌, ◌∙◌, List, ℕ, map, sym, subst}
 use Rattle.rule_schemes.specs.Derivation.{Derivation}
 use Rattle.rule_schemes.specs.View.{theory}
-use Rattle.derivation_check.specs.declared.deriv.Deriv.{Deriv}
 use Rattle.notation_parser.specs.View.{token}
 use Rattle.derivation_text.proofs.LineLemmas.{names_tree, no_tree_named, none_of, none_case, some_case}
 use Rattle.derivation_text.specs.Found.{IsPartsTree, HasNoPartsTree}

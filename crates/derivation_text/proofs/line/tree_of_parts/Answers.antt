@@ -1,5 +1,4 @@
-use Rattle.std.proofs.Common.{◌≡◌, ◌∙◌, Some, map, option_map, sym, ap, subst, refl}
-use Rattle.rule_schemes.specs.Rules.{JudgmentValue}
+use Rattle.std.proofs.Common.{◌≡◌, ◌∙◌, Some, map, option_map, sym, ap}
 use Rattle.rule_schemes.specs.View.{theory, judgment_value}
 use Rattle.rule_schemes.specs.declared.rule.JudgInst.{JudgInst}
 use Rattle.notation_parser.specs.View.{token}

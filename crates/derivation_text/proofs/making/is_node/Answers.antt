@@ -1,8 +1,7 @@
-use Rattle.std.proofs.Common.{◌≡◌, ◌∙◌, List, length, map, arith, sym, ap, subst, refl, true≢false, None, option_map}
+use Rattle.std.proofs.Common.{◌∙◌, List, length, map, sym, ap, subst, refl, true≢false, None, option_map}
 use Rattle.std.specs.Prelude.{IsTrue, ◌↔◌}
 use Rattle.std.proofs.lemmas.List.{length-map}
 use Rattle.scheme_terms.specs.View.{ground_entry, instance}
-use Rattle.scheme_terms.specs.Forms.{ContextValue}
 use Rattle.scheme_terms.specs.declared.scheme.Entry.{Entry}
 use Rattle.scheme_match.specs.Matching.{Matching, AreStrict, IsOnlyMatch}
 use Rattle.rule_schemes.specs.Rules.{rule_names}

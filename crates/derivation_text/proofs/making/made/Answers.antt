@@ -1,4 +1,4 @@
-use Rattle.std.proofs.Common.{◌≡◌, ◌∙◌, ◌<◌, List, length, map, sym, ap, subst, arith, true≢false}
+use Rattle.std.proofs.Common.{List, sym, subst}
 use Rattle.rule_schemes.specs.Rules.{RuleFits}
 use Rattle.rule_schemes.specs.Derivation.{Derivation, IsNodeOf}
 use Rattle.derivation_check.specs.Parts.{subtrees_of}

@@ -1,4 +1,4 @@
-use Rattle.std.proofs.Common.{◌<◌, length, map, arith}
+use Rattle.std.proofs.Common.{arith}
 use Rattle.std.proofs.lemmas.List.{length-map}
 use Rattle.notation_parser.specs.View.{token}
 use Rattle.derivation_text.proofs.NodeLemmas.{no_parts_short}

@@ -1,4 +1,4 @@
-use Rattle.std.proofs.Common.{◌≡◌, IsFalse, map, take}
+use Rattle.std.proofs.Common.{IsFalse, map, take}
 use Rattle.std.specs.List.{AllByRecursion}
 use Rattle.notation_parser.specs.View.{token}
 use Rattle.derivation_text.specs.Forms.{is_reserved_token}

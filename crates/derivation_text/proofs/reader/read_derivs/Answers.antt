@@ -1,4 +1,4 @@
-use Rattle.std.proofs.Common.{◌≡◌, ◌∙◌, List, map, sym, subst}
+use Rattle.std.proofs.Common.{List, map, sym, subst}
 use Rattle.sy_base.specs.Tokens.{AreTokens, not_utf8, open_comment, open_quote}
 use Rattle.proof_lexer.specs.View.{token_view, IsRefusedFor}
 use Rattle.proof_lexer.specs.declared.token.Token.{Token as Lexed}

@@ -1,9 +1,8 @@
-use Rattle.std.proofs.Common.{◌↔◌, ◌≤◌, ◌-◌, [], map, drop, length}
+use Rattle.std.proofs.Common.{◌≤◌, ◌-◌, map, drop, length}
 use Rattle.proof_lexer.specs.View.{token_view}
 use Rattle.rule_schemes.specs.View.{theory}
 use Rattle.derivation_text.specs.Found.{AllDerive}
 use Rattle.derivation_text.specs.Lines.{text_lines}
-use Rattle.derivation_text.specs.Valid.{nothing_around, AreValid, Contents}
 use Rattle.derivation_text.proofs.ReaderLemmas.{Reaches}
 use Rattle.derivation_text.proofs.reader.read_lines.Given as goal
 

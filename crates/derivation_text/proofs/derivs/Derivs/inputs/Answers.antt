@@ -1,7 +1,6 @@
-use Rattle.std.proofs.Common.{◌≡◌, ◌∙◌, List, length, map, option_map, sym, ap, subst}
+use Rattle.std.proofs.Common.{◌∙◌, List, length, map, option_map, sym, ap, subst}
 use Rattle.std.proofs.lemmas.List.{length-map}
 use Rattle.rule_schemes.specs.View.{statement as theorem, statement_input}
-use Rattle.rule_schemes.specs.Derivation.{Derivation}
 use Rattle.derivation_text.specs.Contents.{argument, contents, last_of}
 use Rattle.derivation_text.specs.Given.{given_trees, IsWithin}
 use Rattle.derivation_text.specs.declared.derivs.Argument.{Argument}
