@@ -33,7 +33,8 @@ named_derives th (one ∷ known) w d h e =
 trees_derive : (th : Theory) (st : Theorem) (around : Around) (c : Contents) (inputs : List StatementInput) (args : List Argument) (trees : List Derivation)
     → AllDerive th c.named → StandForAll th st around c inputs args (map derived trees) → AllByRecursion (Derives th) trees
 trees_derive th st around c inputs args [] all h = tt
-trees_derive th st around c [] args (d ∷ trees) all h = absurd h
+trees_derive th st around c [] [] (d ∷ trees) all h = absurd h
+trees_derive th st around c [] (arg ∷ args) (d ∷ trees) all h = absurd h
 trees_derive th st around c (given j ∷ inputs) [] (d ∷ trees) all h = absurd h
 trees_derive th st around c (syntax_input m ∷ inputs) [] (d ∷ trees) all h = absurd h
 trees_derive th st around c (given j ∷ inputs) (by_name w ∷ args) (d ∷ trees) all h = (named_derives th c.named w d all h.0, trees_derive th st around c inputs args trees all h.1)

@@ -1,21 +1,23 @@
 -- What an accepted file says of what is run on it.
 use Rattle.std.proofs.Common.{◌≡◌, ◌≢◌, ◌<◌, ℕ, zero, suc, List, [], ◌∷◌, map, length, Option, Some, None, Vec, Global, inl, inr, refl, ap, sym, ◌∙◌, subst, arith}
 use Rattle.std.proofs.lemmas.Bool.{cases_order}
-use Rattle.std.specs.Prelude.{IfNone, IfSome, MatchOption, slice_get, slice_index_or, option_map}
+use Rattle.std.specs.Prelude.{◌↔◌, Bool, IsTrue, IfNone, IfSome, MatchOption, slice_get, slice_index_or, option_map}
 use Rattle.std.specs.List.{AllByRecursion}
 use Rattle.core_proofs.specs.Kept.{Kept, kept_theory, kept_statements, kept_steps}
 use Rattle.proof_check.specs.File.{IsRightSoFar, IsOnlyFile}
 use Rattle.rule_schemes.specs.Rules.{Theory}
 use Rattle.rule_schemes.specs.Derivation.{Derivation, Derives}
-use Rattle.rule_schemes.specs.Statement.{Theorem, InputTree, derived, Instantiates}
+use Rattle.rule_schemes.specs.Statement.{Theorem, InputTree, derived, Instantiates, DeriveConclusions}
 use Rattle.rule_schemes.specs.View.{statement as plain}
 use Rattle.rule_schemes.specs.declared.rule.Statement.{Statement}
 use Rattle.core_proofs.specs.Provable.{IsFirstNamed}
 use Rattle.judgments.specs.Bare.{IsBareStatement}
 use Rattle.derivation_text.specs.Bare.{TakesDerivations}
 use Rattle.derivation_text.specs.Inputs as given
+use Rattle.derivation_text.specs.Text.{derivations_text}
 use Rattle.theorem_runner.specs.Instances.{no_context_value, IsDerived}
-use Rattle.sasylf_command.specs.Judging.{IsRightFile, IsAcceptedFor, HasRun, IsValueText, Run, IsRunOf, IsTextOn, IsTextFor}
+use Rattle.theorem_runner.specs.Runs.{IsRun}
+use Rattle.sasylf_command.specs.Judging.{MakesText, IsRightFile, IsAcceptedFor, HasRun, IsValueText, Run, IsRunOf, IsTextOn, IsTextFor}
 
 -- where nothing is found the file is not right
 pub none_wrong : (source : List ℕ) (found : Option Kept) → IsOnlyFile (IsRightSoFar source) found → IfNone found (IsRightFile source → ⊥)
@@ -137,3 +139,19 @@ module _ (source theorem lines : List ℕ) (kept : Kept) (accepted : IsAcceptedF
         (subst (λ (th : Theory). given.StandsForInputs th run.statement lines run.inputs) (run_theory run is) is.stand)
         (subst (λ (th : Theory). Instantiates th run.statement no_context_value run.inputs) (run_theory run is) is.instantiate)
     refused_of (Some text) told = tt
+
+-- what is told of the statement that is found
+pub fits_at : (P : Theorem → Type 0) (found : Option Theorem) (is : Bool) → IsTrue is → MatchOption found ⊥ (λ st. IsTrue is ↔ P st) → MatchOption found ⊥ P
+fits_at P None is true_is told = told
+fits_at P (Some st) is true_is told = told.0 true_is
+
+-- the text of what a run gives
+pub makes_text : (kept : Kept) (k : ℕ) (st : Theorem) (xs : List InputTree) → slice_get (kept_statements kept) k ≡ Some st → (ds : List Derivation) (text : List ℕ)
+    → IsRun (kept_theory kept) (kept_statements kept) (kept_steps kept) k no_context_value xs ds → text ≡ derivations_text (kept_theory kept) None ds → MakesText kept k st xs text
+makes_text kept k st xs here ds text made text_is = record {
+  made = made.made;
+  value = made.is_value;
+  only = made.only;
+  derives = λ inst is. subst (λ (ones : List Derivation). DeriveConclusions (kept_theory kept) st inst ones) made.alone (made.concludes st inst here is);
+  text_is = text_is ∙ ap (derivations_text (kept_theory kept) None) made.alone;
+}

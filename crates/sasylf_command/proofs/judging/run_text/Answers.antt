@@ -1,6 +1,13 @@
-use Rattle.std.proofs.Common.{◌≡◌, List, refl, sym, ap, ◌∙◌, true}
+use Rattle.std.proofs.Common.{◌≡◌, List, sym, ◌∙◌, subst}
 use Rattle.std.specs.Prelude.{IsTrue}
+use Rattle.sasylf_command.proofs.Judged.{fits_at, makes_text}
 use Rattle.sasylf_command.proofs.judging.run_text.Goals as goal
+
+pub run-requires-clause-inputs : goal.run-requires-clause-inputs
+run-requires-clause-inputs c =
+    let given = c.if-not-branch.false in
+    let yes : IsTrue c.in_ok-instantiates.field-0 = cc in
+    rw c.new.ensures (fits_at _ _ _ yes c.in_ok-instantiates.ensures)
 
 pub returns : goal.returns
 returns c st here =
@@ -8,14 +15,7 @@ returns c st here =
     let given = c.if-not-branch.false in
     let yes : IsTrue c.in_ok-instantiates.field-0 = cc in
     let fits = told.0 yes in
-    let made = c.in_ok-made.ensures in (
+    let text_is = c.in_ok-from_slice.ensures.items ∙ c.bytes.ensures ∙ rw c.system-2.ensures at c.in_ok-text.ensures in (
       fits,
-      record {
-        made = made.0;
-        value = made.2;
-        derives = λ inst is. c.value_derives.ensures _ _ _ _ st _ _ inst made.0
-            (record { system = rw (← c.system.ensures) c.always_system.ensures.plain; provable = c.always_accepted.ensures.provable; proves = c.always_accepted.ensures.proves })
-            here is made.2;
-        text_is = c.in_ok-from_slice.ensures.items ∙ c.bytes.ensures ∙ rw (c.system-2.ensures, made.1) at c.in_ok-text.ensures;
-      },
+      makes_text c.args.accepted.now c.args.theorem.0 st _ here _ _ (rw c.new.ensures at c.in_ok-made.ensures.value) text_is,
     )
