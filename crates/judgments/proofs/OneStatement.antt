@@ -188,6 +188,8 @@ module _ (th : Theory) (bare : IsBareTheory th) (inputs : List WrittenInput) (ou
     is_built free once = (
       record {
         root = tt;
+        targets = [];
+        target_words = tt;
         written = stands;
         free_names = free;
         different_names = once;

@@ -34,7 +34,7 @@ module _ (th : Theory) (bare : IsBareTheory th) (text : TheoremText) (st : Theor
   abbrev pub forms : List (List Token)
   forms = front ++ text.outputs
 
-  abbrev pub w : IsStatementOf th.sig th.judgments st.scope.root text.name text.inputs text.outputs text.targets text.group st
+  abbrev pub w : IsStatementOf th.sig th.judgments st.scope.root text.name text.inputs text.outputs (h.0).targets text.group st
   w = (h.0).written
 
   pub all : AreGiven text.inputs

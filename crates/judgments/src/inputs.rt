@@ -62,8 +62,7 @@ fn is_named_freely(sig: &Sig, input: &NamedForm<'_>) -> bool
     requires { IsBareSignature sig.now }
     ensures { IsTrue result ↔ IsNamedFreely sig.now (given_text input.now) }
 {
-    let name = input.name.text.as_bytes();
-    is_nameless(name) || is_no_spelling(sig.cats().as_slice(), name)
+    is_no_spelling(sig.cats().as_slice(), input.name.text.as_bytes())
 }
 
 /// Whether the names of all inputs may be given.
