@@ -2,7 +2,7 @@
 use Rattle.std.proofs.Common.{◌≡◌, ◌≢◌, ◌+◌, ◌<◌, ℕ, Bool, List, [], ◌∷◌, ◌++◌, length, map, take, drop, get_or, refl, ap, ◌∙◌, sym, subst, arith, Option, Some, None, MatchOption, IfOk, Result, Ok, Err, append-nil, append_assoc}
 use Rattle.std.specs.Prelude.{option_map}
 use Rattle.std.specs.List.{AllByRecursion, AllZip}
-use Rattle.std.proofs.lemmas.List.{take_more, drop_more, take-append-drop}
+use Rattle.std.proofs.lemmas.List.{drop_more}
 use Rattle.sy_base.specs.Tokens.{PlainToken}
 use Rattle.proof_lexer.specs.View.{token_view, kind_and_text}
 use Rattle.proof_lexer.specs.declared.token.Token as of_token
@@ -24,7 +24,7 @@ use Rattle.judgments.specs.Written.{WrittenInput, IsTarget}
 use Rattle.judgments.proofs.StatementLemmas.{AreGiven}
 use Rattle.judgments.proofs.StatementSays.{all, one_statement}
 use Rattle.judgments.proofs.SystemLemmas.{forms_read}
-use Rattle.judgments.proofs.Zips.{zip_append, zip_split, zip_unique, zip_right, zip_both, zip_map, map_append}
+use Rattle.judgments.proofs.Zips.{zip_append, zip_split, zip_unique, zip_right, zip_both, zip_map}
 
 module _ {X : Type 0} (f : X → PlainPortion) (R : TheoremText → Theorem → Type 0) (xs : List X) where
   -- what is stated up to a portion, and what is left

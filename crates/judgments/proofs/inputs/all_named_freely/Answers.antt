@@ -1,4 +1,3 @@
-use Rattle.std.proofs.Common.{◌↔◌}
 use Rattle.judgments.specs.Statements.{IsNamedFreely}
 use Rattle.judgments.specs.Views.{given_text}
 use Rattle.judgments.proofs.Zips.{all_step}

@@ -1,4 +1,4 @@
-use Rattle.std.proofs.Common.{◌≡◌, ◌∙◌, sym, map, length, None}
+use Rattle.std.proofs.Common.{◌≡◌, ◌∙◌, sym, length, None}
 use Rattle.rule_schemes.specs.View.{theory, statement as plain_statement}
 use Rattle.judgments.specs.Texts.{group_of}
 use Rattle.judgments.proofs.FileStatements.{targets_none, some_target, no_targets_at_all, none_assumed, none_when_not_some, same_theorem, alone_stated, alone_none}

@@ -1,4 +1,3 @@
-use Rattle.std.proofs.Common.{◌≡◌}
 use Rattle.rule_schemes.specs.View.{theory}
 use Rattle.judgments.proofs.FileStatements.{terms_none}
 use Rattle.judgments.proofs.statements.theorem_of.Goals as goal
