@@ -268,9 +268,9 @@ fn stated(
     requires { IsBareTheory (theory sys.now) }
     ensures { IfOk result (λ found. MatchOption found
         ((sts : List Theorem) → AllZip (IsBuiltTheorem (theory sys.now)) (theorem_in groups (plain_portion (portion_view portion.now))
-            (map (λ portion. plain_portion (portion_view portion)) rest.now)) sts → ⊥)
+        (map (λ portion. plain_portion (portion_view portion)) rest.now)) sts → ⊥)
         (λ sts. AllZip (IsBuiltTheorem (theory sys.now)) (theorem_in groups (plain_portion (portion_view portion.now))
-            (map (λ portion. plain_portion (portion_view portion)) rest.now)) (map plain_statement sts.items))) }
+        (map (λ portion. plain_portion (portion_view portion)) rest.now)) (map plain_statement sts.items))) }
 {
     match portion {
         Portion::Theorem {
@@ -292,7 +292,14 @@ fn stated(
                 return Ok(None);
             }
             let group = group_of(groups, *joined);
-            match theorem_of(alloc, sys, group, name, inputs.as_slice(), outputs.as_slice())? {
+            match theorem_of(
+                alloc,
+                sys,
+                group,
+                name,
+                inputs.as_slice(),
+                outputs.as_slice(),
+            )? {
                 Some(statement) => Ok(Some(alone(alloc, statement)?)),
                 None => Ok(None),
             }
