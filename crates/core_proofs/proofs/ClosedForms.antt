@@ -1,8 +1,8 @@
 -- Forms of judgments without a context, and their instances.
-use Rattle.std.proofs.Common.{◌≡◌, ℕ, ◌+◌, ◌<◌, List, [], ◌∷◌, ◌++◌, length, map, None, slice_get, refl, ap, ◌∙◌, sym, subst, arith}
+use Rattle.std.proofs.Common.{◌≡◌, ℕ, ◌+◌, List, [], ◌∷◌, ◌++◌, length, map, None, slice_get, refl, subst, arith}
 use Rattle.std.proofs.lemmas.List.{length-append}
 use Rattle.std.proofs.lemmas.Option.{slice_get_within}
-use Rattle.std.specs.List.{AllByRecursion, AllZip}
+use Rattle.std.specs.List.{AllByRecursion}
 use Rattle.binding_terms.specs.Tree.{Tree, var, con, Args, no_args, arg}
 use Rattle.binding_terms.specs.Signature.{Signature, Place, slots, binders}
 use Rattle.binding_terms.specs.Scope.{bound, IsTerm, AreParts}
@@ -17,8 +17,7 @@ use Rattle.scheme_terms.proofs.Options.{match_some}
 use Rattle.scheme_terms.proofs.SchemeFacts.{length_bound}
 use Rattle.scheme_terms.proofs.Followed.{instance_of_applied_scheme}
 use Rattle.scheme_terms.proofs.InstanceScopes.{instance_keeps_scope_of_metas}
-use Rattle.rule_schemes.specs.Rules.{JudgmentScheme, JudgmentValue, judgment_instance, IsBelow, AreBelow}
-use Rattle.core_proofs.specs.RuleStep.{form_in}
+use Rattle.rule_schemes.specs.Rules.{JudgmentScheme, IsBelow, AreBelow}
 
 -- a form without a context
 abbrev pub no_context : SchemeContext

@@ -1,4 +1,12 @@
+pub mod CitedForms
 pub mod ClosedForms
+pub mod FirstNamed
+pub mod FormScopes
+pub mod GoalFitting
+pub mod Keeping
 pub mod Made
+pub mod Moving
+pub mod PlainForms
+pub mod Refusing
 pub mod RuleFitting
 pub mod RuleSteps

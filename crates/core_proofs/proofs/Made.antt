@@ -1,17 +1,13 @@
 -- What right steps make derives the goal.
-use Rattle.std.proofs.Common.{◌≡◌, ◌≢◌, ℕ, zero, suc, List, [], ◌∷◌, ◌++◌, Option, Some, None, slice_get, MatchOption, refl, ap, ◌∙◌, sym, subst}
+use Rattle.std.proofs.Common.{◌≡◌, ℕ, zero, suc, List, [], ◌∷◌, ◌++◌, Some, slice_get, subst}
 use Rattle.std.specs.List.{AllByRecursion, AllZip}
-use Rattle.scheme_terms.specs.Forms.{Names, Instance}
-use Rattle.scheme_terms.specs.Instance.{FitsScope}
 use Rattle.scheme_terms.specs.declared.scheme.Root.TheVariants.{Closed}
-use Rattle.rule_schemes.specs.Rules.{JudgmentScheme, Rule, Theory, IsInstance, IsJudgmentScheme, rule_names, judgment_instance}
-use Rattle.rule_schemes.specs.Derivation.{Derivation, node, judgment, Derives}
+use Rattle.rule_schemes.specs.Rules.{Rule, IsInstance, IsJudgmentScheme, rule_names, judgment_instance}
+use Rattle.rule_schemes.specs.Derivation.{node, judgment, Derives}
 use Rattle.rule_schemes.specs.Statement.{Theorem}
-use Rattle.core_proofs.specs.Step.{Step, begin_theorem, end_theorem, by_rule}
-use Rattle.core_proofs.specs.RuleStep.{AreCited, IsRuleInstance}
-use Rattle.core_proofs.specs.Proof.{IsStepForm, HasGoal, Standing, outside, within, Move, begins, by_a_rule, ends, Leads, one_step, no_step}
-use Rattle.core_proofs.specs.Value.{AreCitedTrees, subtrees, Makes, makes_node, makes_last}
-use Rattle.core_proofs.specs.Laws.{SpeaksOfNoContext, AreDerived, DerivesGoal, MakesDerives}
+use Rattle.core_proofs.specs.Proof.{HasGoal, by_a_rule, ends, one_step, no_step}
+use Rattle.core_proofs.specs.Value.{subtrees, makes_node, makes_last}
+use Rattle.core_proofs.specs.Laws.{MakesDerives}
 use Rattle.core_proofs.proofs.RuleSteps.{rule_step_derives}
 
 -- what holds place by place holds at a place

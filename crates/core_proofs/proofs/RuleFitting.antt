@@ -1,40 +1,39 @@
 -- A step is an instance of its rule exactly where a substitution fits the equations of its forms.
-use Rattle.std.proofs.Common.{◌≡◌, ◌↔◌, ◌⊎◌, ◌==◌, ◌&&◌, nat_eq, ℕ, suc, ◌+◌, Bool, true, false, IsTrue, if◌then◌else◌, List, [], ◌∷◌, ◌++◌, length, map, Option, Some, None, is_some, slice_get, MatchOption, option_map, unwrap_or, inl, inr, refl, ap, ◌∙◌, sym, subst, arith}
+use Rattle.std.proofs.Common.{◌≡◌, ◌↔◌, ◌⊎◌, ◌==◌, ◌&&◌, ℕ, suc, Bool, true, false, IsTrue, if◌then◌else◌, List, [], ◌∷◌, length, map, Option, Some, None, is_some, slice_get, MatchOption, option_map, unwrap_or, inl, inr, refl, ap, ◌∙◌, sym, subst, arith}
 use Rattle.std.proofs.lemmas.Bool.Decides.{nat_tests}
 use Rattle.std.proofs.lemmas.List.{length-map}
 use Rattle.std.specs.List.{AllByRecursion}
 use Rattle.binding_terms.specs.Numbered.{AnyByRecursion, AllNumbered}
 use Rattle.binding_terms.specs.Signature.{Signature, Place, slots}
 use Rattle.scheme_terms.specs.SchemeTree.{SchemeTree, StrictIn}
-use Rattle.scheme_terms.specs.Forms.{SchemeContext, SchemeEntry, Names, Substitution}
-use Rattle.scheme_terms.specs.SchemeScope.{IsScheme, AreSchemes, IsSchemeContext, AreExplicitEntries, entry_variables}
+use Rattle.scheme_terms.specs.Forms.{SchemeContext, Names, Substitution}
+use Rattle.scheme_terms.specs.SchemeScope.{AreSchemes, IsSchemeContext, AreExplicitEntries, entry_variables}
 use Rattle.scheme_terms.specs.Substituting.{applied, IsSubstitution}
 use Rattle.scheme_terms.specs.declared.scheme.MetaDecl.{MetaDecl}
-use Rattle.scheme_terms.specs.declared.scheme.Root.TheVariants.{Closed}
 use Rattle.scheme_terms.proofs.Options.{match_some}
 use Rattle.pattern_unify.specs.Equations.{SchemeEquation}
 use Rattle.pattern_unify.specs.Plain.{NothingBinds}
 use Rattle.pattern_unify.specs.Fit.{Becomes}
 use Rattle.pattern_unify.specs.FitInto.{AreSidesInto, AreToFitInto, IsFitInto, IsOnlyFitInto, AreWithoutBindingInto}
 use Rattle.pattern_unify.proofs.Solving.{all_append, any_append}
-use Rattle.rule_schemes.specs.Rules.{JudgmentScheme, Rule, Theory, IsRootOf, IsOneEntry, IsJudgmentScheme, StrictInEntries, StrictInJudgment, StrictInRule, argument_slots, rule_names}
-use Rattle.core_proofs.specs.FormEquations.{equated, paired, form_equations, both, all_equations}
+use Rattle.rule_schemes.specs.Rules.{JudgmentScheme, Rule, Theory, IsRootOf, IsOneEntry, StrictInEntries, StrictInJudgment, StrictInRule, argument_slots, rule_names}
+use Rattle.core_proofs.specs.FormEquations.{paired, form_equations, both, all_equations}
 use Rattle.core_proofs.specs.RuleStep.{form_in, IsRaisedTo, IsRuleInstance}
 use Rattle.core_proofs.specs.Plain.{IsPlainScope, IsPlainForm, IsPlainRule}
 use Rattle.core_proofs.proofs.ClosedForms.{closed_form, is_closed_form}
 use Rattle.core_proofs.proofs.RuleSteps.{form_is}
 
 -- the places of a judgment's arguments
-abbrev places : Theory → ℕ → List Place
+abbrev pub places : Theory → ℕ → List Place
 places th k = unwrap_or (option_map (λ form. argument_slots form.ctx (slots form.items)) (slice_get th.judgments k)) []
 
 -- a form without a context has no entries, and its arguments are schemes without locals
-record IsBareForm (th : Theory) (names : Names) (j : JudgmentScheme) : Type 0 where
+pub record IsBareForm (th : Theory) (names : Names) (j : JudgmentScheme) : Type 0 where
   pub entries : j.context.entries ≡ []
   pub form : j ≡ closed_form j.judgment j.args
   pub args : AreSchemes th.sig names [] (places th j.judgment) j.args
 
-bare : (th : Theory) (names : Names) (j : JudgmentScheme) → IsPlainForm th names j → IsBareForm th names j
+pub bare : (th : Theory) (names : Names) (j : JudgmentScheme) → IsPlainForm th names j → IsBareForm th names j
 bare th names j is =
     let got = match_some (slice_get th.judgments j.judgment)
     (λ form. IsRootOf form.ctx j.context.root × IsSchemeContext th.sig names j.context
@@ -88,7 +87,7 @@ module _ (ss : List SchemeTree) (ks : List ℕ) where
       λ i. first i ∷ rest i
 
 -- the equations of two lists, where there are both
-match_both : (P : SchemeEquation → Type 0) (xs ys : Option (List SchemeEquation)) →
+pub match_both : (P : SchemeEquation → Type 0) (xs ys : Option (List SchemeEquation)) →
     MatchOption (both xs ys) ⊥ (AllByRecursion P) ↔ (MatchOption xs ⊥ (AllByRecursion P) × MatchOption ys ⊥ (AllByRecursion P))
 match_both P None ys = (λ h. absurd h, λ h. h.0)
 match_both P (Some xs) None = (λ h. absurd h, λ h. h.1)
@@ -111,7 +110,7 @@ module _ (ctx : SchemeContext) (by : Substitution) where
         form_is ctx by j jf ∙ (λ i. closed_form (parts.0 i) (args i)) ∙ sym tf,
   )
 
-  all_forms : (js ts : List JudgmentScheme) → AllByRecursion (λ j. j ≡ closed_form j.judgment j.args) js → AllByRecursion (λ t. t ≡ closed_form t.judgment t.args) ts →
+  pub all_forms : (js ts : List JudgmentScheme) → AllByRecursion (λ j. j ≡ closed_form j.judgment j.args) js → AllByRecursion (λ t. t ≡ closed_form t.judgment t.args) ts →
       (map (form_in ctx by) js ≡ ts) ↔ MatchOption (all_equations js ts) ⊥ (AllByRecursion (Becomes by.metas by.knowns))
   all_forms [] [] jf tf = (λ e. tt, λ h. refl)
   all_forms [] (t ∷ ts) jf tf = (λ e. let no : ⊥ = cc in absurd no, λ h. absurd h)
@@ -129,22 +128,22 @@ module _ (ctx : SchemeContext) (by : Substitution) where
             λ i. here i ∷ there i,
       )
 
-bare_forms : (th : Theory) (names : Names) (js : List JudgmentScheme) → AllByRecursion (IsPlainForm th names) js →
+pub bare_forms : (th : Theory) (names : Names) (js : List JudgmentScheme) → AllByRecursion (IsPlainForm th names) js →
     AllByRecursion (λ j. j ≡ closed_form j.judgment j.args) js
 bare_forms th names [] h = tt
 bare_forms th names (j ∷ js) h = ((bare th names j h.0).form, bare_forms th names js h.1)
 
 -- each equation is so, where there are equations
-abbrev EachOf : (SchemeEquation → Type 0) → Option (List SchemeEquation) → Type 0
+abbrev pub EachOf : (SchemeEquation → Type 0) → Option (List SchemeEquation) → Type 0
 EachOf P o = MatchOption o (Unit {0}) (AllByRecursion P)
 
-each_both : (P : SchemeEquation → Type 0) (xs ys : Option (List SchemeEquation)) → EachOf P xs → EachOf P ys → EachOf P (both xs ys)
+pub each_both : (P : SchemeEquation → Type 0) (xs ys : Option (List SchemeEquation)) → EachOf P xs → EachOf P ys → EachOf P (both xs ys)
 each_both P None ys h g = tt
 each_both P (Some xs) None h g = tt
 each_both P (Some xs) (Some ys) h g = (all_append P xs ys).1 (h, g)
 
 -- the equation has no locals and its sides go together
-abbrev GoTogether : Signature → (from into : Names) → SchemeEquation → Type 0
+abbrev pub GoTogether : Signature → (from into : Names) → SchemeEquation → Type 0
 GoTogether sig from into e = (e.locals ≡ []) × AreSidesInto sig from into e
 
 paired_sides : (sig : Signature) (from into : Names) (ps : List Place) (ss ts : List SchemeTree) → AreSchemes sig from [] ps ss → AreSchemes sig into [] ps ts →
@@ -167,7 +166,7 @@ module _ (th : Theory) (from into : Names) where
           (paired_sides th.sig from into (places th j.judgment) j.args t.args jb.args
           (subst (λ k. AreSchemes th.sig into [] (places th k) t.args) (sym parts.0) tb.args))
 
-  all_sides : (js ts : List JudgmentScheme) → AllByRecursion (IsPlainForm th from) js → AllByRecursion (IsPlainForm th into) ts →
+  pub all_sides : (js ts : List JudgmentScheme) → AllByRecursion (IsPlainForm th from) js → AllByRecursion (IsPlainForm th into) ts →
       EachOf (GoTogether th.sig from into) (all_equations js ts)
   all_sides [] [] h g = tt
   all_sides [] (t ∷ ts) h g = tt
@@ -183,10 +182,10 @@ paired_strict m (s ∷ ss) [] l h = absurd (let no : ⊥ = omega (arith, l) in n
 paired_strict m (s ∷ ss) (t ∷ ts) l (inl h) = inl h
 paired_strict m (s ∷ ss) (t ∷ ts) l (inr h) = inr (paired_strict m ss ts (omega (arith, l)) h)
 
-abbrev SomeOf : (SchemeEquation → Type 0) → Option (List SchemeEquation) → Type 0
+abbrev pub SomeOf : (SchemeEquation → Type 0) → Option (List SchemeEquation) → Type 0
 SomeOf P o = MatchOption o (Unit {0}) (AnyByRecursion P)
 
-some_both : (P : SchemeEquation → Type 0) (xs ys : Option (List SchemeEquation)) → SomeOf P xs ⊎ SomeOf P ys → SomeOf P (both xs ys)
+pub some_both : (P : SchemeEquation → Type 0) (xs ys : Option (List SchemeEquation)) → SomeOf P xs ⊎ SomeOf P ys → SomeOf P (both xs ys)
 some_both P None ys h = tt
 some_both P (Some xs) None h = tt
 some_both P (Some xs) (Some ys) h = any_append P xs ys h
@@ -199,7 +198,7 @@ form_strict m j t none (inr h) = at (form_equations j t) refl
     at None e = tt
     at (Some eqs) e = let parts = form_some j t eqs e in subst (AnyByRecursion (λ e. StrictIn m e.left)) parts.2 (paired_strict m j.args t.args parts.1 h)
 
-all_strict : (th : Theory) (names : Names) (m : ℕ) (js ts : List JudgmentScheme) → AllByRecursion (IsPlainForm th names) js → AnyByRecursion (StrictInJudgment m) js →
+pub all_strict : (th : Theory) (names : Names) (m : ℕ) (js ts : List JudgmentScheme) → AllByRecursion (IsPlainForm th names) js → AnyByRecursion (StrictInJudgment m) js →
     SomeOf (λ e. StrictIn m e.left) (all_equations js ts)
 all_strict th names m [] ts p h = absurd h
 all_strict th names m (j ∷ js) [] p h = tt
@@ -208,11 +207,11 @@ all_strict th names m (j ∷ js) (t ∷ ts) p (inl h) =
 all_strict th names m (j ∷ js) (t ∷ ts) p (inr h) =
     some_both (λ e. StrictIn m e.left) (form_equations j t) (all_equations js ts) (inr (all_strict th names m js ts p.1 h))
 
-numbered_map : {A : Type 0} (P Q : ℕ → A → Type 0) → ((m : ℕ) (a : A) → P m a → Q m a) → (n : ℕ) (xs : List A) → AllNumbered P n xs → AllNumbered Q n xs
+pub numbered_map : {A : Type 0} (P Q : ℕ → A → Type 0) → ((m : ℕ) (a : A) → P m a → Q m a) → (n : ℕ) (xs : List A) → AllNumbered P n xs → AllNumbered Q n xs
 numbered_map P Q f n [] h = tt
 numbered_map P Q f n (x ∷ xs) h = (f n x h.0, numbered_map P Q f (suc n) xs h.1)
 
-firsts : (P Q : SchemeEquation → Type 0) (es : List SchemeEquation) → AllByRecursion (λ e. P e × Q e) es → AllByRecursion P es × AllByRecursion Q es
+pub firsts : (P Q : SchemeEquation → Type 0) (es : List SchemeEquation) → AllByRecursion (λ e. P e × Q e) es → AllByRecursion P es × AllByRecursion Q es
 firsts P Q [] h = (tt, tt)
 firsts P Q (e ∷ es) h = let rest = firsts P Q es h.1 in ((h.0.0, rest.0), (h.0.1, rest.1))
 

@@ -1,5 +1,5 @@
 -- The instance of a right step by a rule is a derivation.
-use Rattle.std.proofs.Common.{◌≡◌, ℕ, ◌+◌, List, [], ◌∷◌, ◌++◌, length, map, reverse, Some, None, slice_get, MatchOption, refl, ap, ◌∙◌, sym, subst}
+use Rattle.std.proofs.Common.{◌≡◌, ℕ, List, [], ◌∷◌, ◌++◌, length, map, Some, slice_get, refl, ap, ◌∙◌, sym, subst}
 use Rattle.std.specs.List.{AllByRecursion, AllZip}
 use Rattle.binding_terms.specs.Signature.{Signature, Place, slots}
 use Rattle.binding_terms.specs.Scope.{IsTerm}
@@ -7,21 +7,19 @@ use Rattle.scheme_terms.specs.SchemeTree.{SchemeTree}
 use Rattle.scheme_terms.specs.Forms.{SchemeContext, ContextValue, Names, Instance, Substitution}
 use Rattle.scheme_terms.specs.Context.{scope_of, IsValue}
 use Rattle.scheme_terms.specs.Instance.{instance_of, place_of, FitsScope, IsMetaValue, IsKnownPlace}
-use Rattle.scheme_terms.specs.SchemeScope.{IsScheme, AreSchemes, IsSchemeContext, AreExplicitEntries, StandsWith, params_scope, entry_variables}
+use Rattle.scheme_terms.specs.SchemeScope.{IsScheme, AreSchemes, IsSchemeContext, AreExplicitEntries, params_scope, entry_variables}
 use Rattle.scheme_terms.specs.Substituting.{applied, followed, followed_metas, params, IsSubstitution, IsKnownValue}
 use Rattle.scheme_terms.specs.declared.scheme.MetaDecl.{MetaDecl}
-use Rattle.scheme_terms.specs.declared.scheme.Root.{Root}
-use Rattle.scheme_terms.specs.declared.scheme.Root.TheVariants.{Closed, Empty, Whole}
+use Rattle.scheme_terms.specs.declared.scheme.Root.TheVariants.{Closed}
 use Rattle.scheme_terms.proofs.Options.{match_some, match_from}
 use Rattle.scheme_terms.proofs.SchemeFacts.{length_params}
 use Rattle.scheme_terms.proofs.InstanceScopes.{instance_keeps_scope_of_metas}
 use Rattle.rule_schemes.specs.Rules.{JudgmentScheme, JudgmentValue, Rule, Theory, IsInstance, IsJudgmentScheme, IsRootOf, IsBelow, AreClosed, judgment_instance, argument_slots, rule_names}
-use Rattle.rule_schemes.specs.Derivation.{Derivation, judgment, node, Subtrees, no_more, subtree, AreInstances, IsNodeOf, Derives, AllDerive}
-use Rattle.core_proofs.specs.RuleStep.{form_in, IsRaisedTo, IsRuleInstance}
-use Rattle.core_proofs.specs.Proof.{IsStepForm}
+use Rattle.rule_schemes.specs.Derivation.{Derivation, judgment, AreInstances, IsNodeOf, Derives, AllDerive}
+use Rattle.core_proofs.specs.RuleStep.{form_in, IsRaisedTo}
 use Rattle.core_proofs.specs.Value.{subtrees}
 use Rattle.core_proofs.specs.Laws.{RuleStepDerives}
-use Rattle.core_proofs.proofs.ClosedForms.{no_context, closed_form, is_closed_form, no_value, closed_instances, instances_applied}
+use Rattle.core_proofs.proofs.ClosedForms.{closed_form, is_closed_form, no_value, closed_instances, instances_applied}
 
 -- a closed form over names has no entries, and its arguments are schemes without locals
 record IsClosedOver (th : Theory) (names : Names) (j : JudgmentScheme) : Type 0 where

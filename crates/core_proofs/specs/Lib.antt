@@ -1,7 +1,9 @@
 pub mod FormEquations
+pub mod Kept
 pub mod Laws
 pub mod Plain
 pub mod Proof
+pub mod Provable
 pub mod RuleStep
 pub mod Step
 pub mod Value

@@ -3,7 +3,7 @@ use Rattle.std.specs.Prelude.{◌≡◌, []}
 use Rattle.std.specs.List.{AllByRecursion}
 use Rattle.scheme_terms.specs.Forms.{Names}
 use Rattle.scheme_terms.specs.declared.scheme.Root.TheVariants.{Closed}
-use Rattle.pattern_unify.specs.Plain.{NothingBinds, HaveNoParameters}
+use Rattle.pattern_unify.specs.Plain.{HaveNoParameters}
 use Rattle.rule_schemes.specs.Rules.{JudgmentScheme, Rule, Theory, IsJudgmentScheme, StrictInRule, rule_names}
 use Rattle.binding_terms.specs.Numbered.{AllNumbered}
 

@@ -1,10 +1,21 @@
 //! Proofs whose every kept step is right.
 #![tactic(auto)]
 
+mod accepted;
+mod citing;
+mod form;
+mod goal;
 mod laws;
+mod proving;
 mod rule_step;
+mod scoping;
 mod step;
 
+pub use accepted::Accepted;
+pub use form::is_form;
+pub use goal::has_goal;
 pub use laws::{makes_derives, rule_step_derives};
+pub use proving::Proving;
 pub use rule_step::is_rule_instance;
+pub use scoping::proof_scope;
 pub use step::{CoreStep, StepId};

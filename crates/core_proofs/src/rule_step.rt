@@ -69,7 +69,7 @@ fn add_form(
 }
 
 /// The equations of forms, one after another, unless there are more of one kind.
-pub fn equations_of(
+pub(crate) fn equations_of(
     alloc: Global,
     patterns: &[JScheme],
     targets: &[&JScheme],
@@ -89,7 +89,7 @@ pub fn equations_of(
     Ok(Some(equations))
 }
 
-fn copy_name(alloc: Global, decl: &MetaDecl) -> Result<MetaDecl, NoMemory>
+pub(crate) fn copy_name(alloc: Global, decl: &MetaDecl) -> Result<MetaDecl, NoMemory>
     ensures { IfOk result (λ new. new ≡ decl.now) }
 {
     let mut name = Text::new(alloc);

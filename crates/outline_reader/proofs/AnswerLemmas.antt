@@ -1,5 +1,5 @@
 -- What reading the tokens of a text answers, in terms of the grammar.
-use Rattle.std.proofs.Common.{◌≡◌, ◌≢◌, ◌⊎◌, inl, inr, ℕ, ◌+◌, Bool, true, false, cond, not, codes, List, [], ◌∷◌, ◌++◌, length, map, Option, Some, None, Result, Ok, Err, refl, sym, ◌∙◌, ap, subst, append_assoc, length-append, arith, eq-eqb, nat_eq}
+use Rattle.std.proofs.Common.{◌≡◌, ◌≢◌, inl, inr, ℕ, ◌+◌, Bool, true, false, cond, not, codes, List, [], ◌∷◌, ◌++◌, length, map, Option, Some, None, Ok, Err, refl, sym, ◌∙◌, ap, subst, append_assoc, arith, eq-eqb, nat_eq}
 use Rattle.std.specs.Str.{chars}
 use Rattle.std.proofs.lemmas.List.{append-nil}
 use Rattle.std.proofs.lemmas.Option.{none-some}
@@ -18,11 +18,11 @@ use Rattle.outline_reader.specs.declared.sort.Sort.{Sort}
 use Rattle.outline_reader.specs.declared.sort.Sort.TheVariants as s
 use Rattle.outline_reader.specs.declared.symbols.Role.{Role}
 use Rattle.outline_reader.specs.Sorts.{sort_of, word_sort}
-use Rattle.outline_reader.specs.Derives.{Mark, level, begins_line, seen_after, seen, Reaches, here, Derives, whole}
+use Rattle.outline_reader.specs.Derives.{Mark, level, seen_after, seen, Reaches, here, Derives, whole}
 use Rattle.outline_reader.specs.Limits.{nothing_counted, counted}
 use Rattle.outline_reader.specs.Machine.{take, missing}
 use Rattle.outline_reader.specs.Reading.{Answer, read, roles, with_roles, within_limits, at_end, fault_after, first_fault}
-use Rattle.outline_reader.specs.Outline.{IsFile, Begins, LeavesOff, StopsAt, counts_after, passed_in, NotBefore, last_line, IsOutlined, IsUnexpected, IsMissingEnd, EndsElsewhere, IsTooMany, IsAnswer}
+use Rattle.outline_reader.specs.Outline.{IsFile, Begins, LeavesOff, counts_after, passed_in, NotBefore, last_line, IsOutlined, IsUnexpected, IsMissingEnd, EndsElsewhere, IsTooMany, IsAnswer}
 use Rattle.outline_reader.proofs.TakeLemmas.{marked, take_reaches, missing_derives}
 use Rattle.outline_reader.proofs.OrderLemmas.{Ordered, FirstStep, Told, told, whole_ordered, to_false}
 use Rattle.outline_reader.proofs.CompletionLemmas.{Completes, completes}

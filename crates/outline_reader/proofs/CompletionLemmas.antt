@@ -1,5 +1,5 @@
 -- Whatever is to come can come.
-use Rattle.std.proofs.Common.{◌≡◌, ◌≢◌, ◌⊎◌, inl, inr, ℕ, Bool, true, false, cond, not, ◌&&◌, ◌||◌, List, [], ◌∷◌, ◌++◌, map, refl, sym, ◌∙◌, ap, subst, append_assoc}
+use Rattle.std.proofs.Common.{◌≡◌, Bool, true, false, cond, ◌&&◌, List, [], ◌∷◌, ◌++◌, map, refl, sym, ◌∙◌, ap, subst, append_assoc}
 use denote.Enum.Bare.{true_same}
 use Rattle.outline_reader.specs.contracts.sort.Sort.{the_type}
 use Rattle.outline_reader.specs.declared.fault.Part.{Part}
@@ -17,15 +17,12 @@ use Rattle.outline_reader.specs.declared.symbols.Phrase.{Phrase}
 use Rattle.outline_reader.specs.declared.symbols.Phrase.TheVariants as p
 use Rattle.outline_reader.specs.declared.symbols.Times.{Times}
 use Rattle.outline_reader.specs.declared.symbols.Times.TheVariants as times
-use Rattle.outline_reader.specs.declared.symbols.Rest.{Rest}
 use Rattle.outline_reader.specs.declared.symbols.Rest.TheVariants as rest
 use Rattle.outline_reader.specs.declared.symbols.Symbol.{Symbol}
 use Rattle.outline_reader.specs.declared.symbols.Symbol.TheVariants.{One, Choice}
 use Rattle.outline_reader.specs.declared.symbols.Item.{Item}
-use Rattle.outline_reader.specs.declared.symbols.Item.TheVariants.{Here}
-use Rattle.outline_reader.specs.declared.symbols.Item.TheVariants as item
 use Rattle.outline_reader.specs.Grammar.{Alternative, times_of, alternatives, items}
-use Rattle.outline_reader.specs.Derives.{same_sort, has, stands, fits, await, again, opened, level, Mark, IsOneOf, first, later, Reaches, Derives, here, token, alternative, left_out}
+use Rattle.outline_reader.specs.Derives.{has, stands, fits, await, again, opened, Mark, IsOneOf, first, later, Derives, here, token, alternative, left_out}
 use Rattle.outline_reader.specs.Machine.{is_once}
 use Rattle.outline_reader.proofs.TakeLemmas.{marked, not_once}
 use Rattle.outline_reader.proofs.OrderLemmas.{all_of, and_left, and_right, symbol_of, await_symbol}

@@ -5,3 +5,10 @@ pub mod OrderLemmas
 pub mod CompletionLemmas
 pub mod AnswerLemmas
 pub mod OutlineLemmas
+pub mod FieldLemmas
+pub mod PortionLemmas
+pub mod UniqueLemmas
+pub mod WritingLemmas
+pub mod FilledLemmas
+pub mod KindLemmas
+pub mod FoundLemmas

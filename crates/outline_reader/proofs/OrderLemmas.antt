@@ -1,5 +1,5 @@
 -- What may follow a phrase, and that one token tells which way a derivation goes.
-use Rattle.std.proofs.Common.{◌≡◌, ◌≢◌, ◌⊎◌, inl, inr, ℕ, Bool, true, false, cond, not, ◌&&◌, ◌||◌, List, [], ◌∷◌, ◌++◌, map, Option, Some, None, refl, sym, ◌∙◌, ap, subst, append_assoc}
+use Rattle.std.proofs.Common.{◌≡◌, ◌≢◌, ◌⊎◌, inl, inr, Bool, true, false, cond, not, ◌&&◌, ◌||◌, List, [], ◌∷◌, ◌++◌, map, Some, None, refl, sym, ◌∙◌, ap, subst, append_assoc}
 use denote.Enum.Bare.{same_true}
 use Rattle.outline_reader.specs.contracts.sort.Sort.{the_type}
 use Rattle.outline_reader.specs.declared.fault.Part.{Part}
@@ -17,16 +17,14 @@ use Rattle.outline_reader.specs.declared.symbols.Phrase.{Phrase}
 use Rattle.outline_reader.specs.declared.symbols.Phrase.TheVariants as p
 use Rattle.outline_reader.specs.declared.symbols.Times.{Times}
 use Rattle.outline_reader.specs.declared.symbols.Times.TheVariants as times
-use Rattle.outline_reader.specs.declared.symbols.Rest.{Rest}
 use Rattle.outline_reader.specs.declared.symbols.Symbol.{Symbol}
 use Rattle.outline_reader.specs.declared.symbols.Symbol.TheVariants.{One, Choice}
 use Rattle.outline_reader.specs.declared.symbols.Item.{Item}
 use Rattle.outline_reader.specs.declared.symbols.Item.TheVariants.{Here}
 use Rattle.outline_reader.specs.declared.symbols.Item.TheVariants as item
 use Rattle.outline_reader.specs.Grammar.{Alternative, times_of, alternatives, items}
-use Rattle.outline_reader.specs.Derives.{same_sort, is_formed, has, stands, fits, await, again, opened, level, Mark, IsOneOf, first, later, Reaches, Derives, here, token, alternative, left_out, whole}
-use Rattle.outline_reader.specs.Machine.{chosen, is_once, take_choice, take_symbol, take, may_be_left_out, missing}
-use Rattle.outline_reader.proofs.TakeLemmas.{marked, not_once}
+use Rattle.outline_reader.specs.Derives.{same_sort, has, stands, fits, await, again, opened, level, Mark, IsOneOf, first, later, Reaches, here, token, alternative, left_out, whole}
+use Rattle.outline_reader.specs.Machine.{chosen, is_once, take_choice, take, missing}
 
 -- ---- what a token may begin
 

@@ -1,5 +1,5 @@
 -- A text has its one outline, or its one fault.
-use Rattle.std.proofs.Common.{◌≡◌, List, Result, Ok, Err, refl, sym, ◌∙◌, ap, subst}
+use Rattle.std.proofs.Common.{◌≡◌, List, Ok, Err, sym, ◌∙◌, ap, subst}
 use Rattle.proof_lexer.specs.declared.token.Token.{Token}
 use Rattle.outline_reader.specs.declared.fault.OutlineFault.{OutlineFault}
 use Rattle.outline_reader.specs.declared.symbols.Role.{Role}

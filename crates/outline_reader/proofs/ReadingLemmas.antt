@@ -1,9 +1,7 @@
 -- One turn of reading the tokens of a text.
-use Rattle.std.proofs.Common.{◌≡◌, ℕ, ◌+◌, ◌<◌, List, [], ◌∷◌, ◌++◌, length, get_or, drop, Option, Some, None, Ok, Err, refl, sym, ◌∙◌, ap, arith, append_assoc, length-append, drop-cons, add-one}
+use Rattle.std.proofs.Common.{◌≡◌, ℕ, ◌+◌, ◌<◌, List, [], ◌∷◌, ◌++◌, length, get_or, drop, Option, Some, None, Ok, Err, refl, sym, ◌∙◌, ap, append_assoc, length-append, drop-cons, add-one}
 use Rattle.proof_lexer.specs.declared.token.Kind.TheVariants.{Word}
 use Rattle.proof_lexer.specs.declared.token.Token.{Token}
-use Rattle.outline_reader.specs.declared.fault.Part.{Part}
-use Rattle.outline_reader.specs.declared.fault.OutlineFault.{OutlineFault}
 use Rattle.outline_reader.specs.declared.fault.OutlineFault.TheVariants.{Unexpected}
 use Rattle.outline_reader.specs.declared.limits.Counts.{Counts}
 use Rattle.outline_reader.specs.declared.machine.Awaited.{Awaited}

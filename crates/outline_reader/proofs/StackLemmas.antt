@@ -1,5 +1,5 @@
 -- A stack whose top is its last item.
-use Rattle.std.proofs.Common.{◌≡◌, ℕ, ◌+◌, Bool, true, false, cond, List, [], ◌∷◌, ◌++◌, reverse, refl, sym, ◌∙◌, ap, arith}
+use Rattle.std.proofs.Common.{◌≡◌, ℕ, ◌+◌, Bool, true, false, cond, List, [], ◌∷◌, ◌++◌, reverse, refl, ◌∙◌, ap, arith}
 use Rattle.std.proofs.lemmas.List.{reverse-append}
 use Rattle.outline_reader.specs.declared.machine.Awaited.{Awaited}
 use Rattle.outline_reader.specs.Derives.{level, is_level}

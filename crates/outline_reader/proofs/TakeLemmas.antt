@@ -1,5 +1,5 @@
 -- What reading takes, the grammar derives.
-use Rattle.std.proofs.Common.{◌≡◌, ◌≢◌, ℕ, Bool, true, false, cond, not, List, [], ◌∷◌, ◌++◌, Option, Some, None, refl, sym, ◌∙◌, ap, subst}
+use Rattle.std.proofs.Common.{◌≡◌, ◌≢◌, Bool, true, false, cond, not, List, [], ◌∷◌, ◌++◌, Option, Some, None, refl, sym, subst}
 use Rattle.std.proofs.lemmas.Option.{cond_some, none-some}
 use Rattle.outline_reader.specs.declared.fault.Part.{Part}
 use Rattle.outline_reader.specs.declared.machine.Seen.{Seen}

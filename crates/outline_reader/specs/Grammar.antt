@@ -1,9 +1,7 @@
 -- The grammar of a file: what each phrase may begin with, and what follows; to be held against the table of forms of the notation.
 -- A token is named by where it stands (First: it begins its line; Next: it goes on the line), by what it may be, and by its role in the outline.
 use Rattle.std.specs.Prelude.{List, [], ◌∷◌}
-use Rattle.outline_reader.specs.declared.fault.Part.{Part}
 use Rattle.outline_reader.specs.declared.fault.Part.TheVariants as part
-use Rattle.outline_reader.specs.declared.sort.Sort.{Sort}
 use Rattle.outline_reader.specs.declared.sort.Sort.TheVariants as s
 use Rattle.outline_reader.specs.declared.symbols.Place.{Place}
 use Rattle.outline_reader.specs.declared.symbols.Place.TheVariants as place
@@ -17,7 +15,6 @@ use Rattle.outline_reader.specs.declared.symbols.Times.{Times}
 use Rattle.outline_reader.specs.declared.symbols.Times.TheVariants as times
 use Rattle.outline_reader.specs.declared.symbols.Rest.{Rest}
 use Rattle.outline_reader.specs.declared.symbols.Rest.TheVariants as rest
-use Rattle.outline_reader.specs.declared.symbols.Symbol.{Symbol}
 use Rattle.outline_reader.specs.declared.symbols.Symbol.TheVariants.{One, Choice}
 use Rattle.outline_reader.specs.declared.symbols.Item.{Item}
 use Rattle.outline_reader.specs.declared.symbols.Item.TheVariants.{Here, In}

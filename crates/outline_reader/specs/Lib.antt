@@ -9,4 +9,6 @@ pub mod Fields
 pub mod Views
 pub mod Portions
 pub mod Plain
+pub mod Filled
+pub mod Found
 pub mod Laws

@@ -1,5 +1,5 @@
 -- The limits on what a file may have; to be held against the table of limits.
-use Rattle.std.specs.Prelude.{ℕ, ◌+◌, nat_lt, Bool, true, false, if◌then◌else◌, Option, Some, None}
+use Rattle.std.specs.Prelude.{ℕ, ◌+◌, nat_lt, if◌then◌else◌, Option, Some, None}
 use Rattle.outline_reader.specs.declared.fault.Limit.{Limit}
 use Rattle.outline_reader.specs.declared.fault.Limit.TheVariants as limit
 use Rattle.outline_reader.specs.declared.limits.Counts.{Counts}

@@ -1,5 +1,5 @@
 -- Reading tokens one after another, by the first token alone; Laws say that it is what the grammar derives.
-use Rattle.std.specs.Prelude.{◌≡◌, ℕ, Bool, true, false, not, if◌then◌else◌, List, [], ◌∷◌, ◌++◌, Option, Some, None}
+use Rattle.std.specs.Prelude.{◌≡◌, Bool, true, false, not, if◌then◌else◌, List, [], ◌∷◌, ◌++◌, Option, Some, None}
 use Rattle.outline_reader.specs.declared.fault.Part.{Part}
 use Rattle.outline_reader.specs.declared.machine.Seen.{Seen}
 use Rattle.outline_reader.specs.declared.machine.Awaited.{Awaited}
@@ -11,7 +11,7 @@ use Rattle.outline_reader.specs.declared.symbols.Rest.{Rest}
 use Rattle.outline_reader.specs.declared.symbols.Symbol.{Symbol}
 use Rattle.outline_reader.specs.declared.symbols.Symbol.TheVariants.{One, Choice}
 use Rattle.outline_reader.specs.Grammar.{Alternative, times_of, alternatives}
-use Rattle.outline_reader.specs.Derives.{fits, opened, Mark, level}
+use Rattle.outline_reader.specs.Derives.{fits, opened}
 
 -- the first alternative that the token begins
 abbrev pub chosen : List Alternative → Seen → Option (Role × Rest)

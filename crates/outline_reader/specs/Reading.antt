@@ -1,5 +1,5 @@
 -- What reading the tokens of a text answers.
-use Rattle.std.specs.Prelude.{◌≡◌, ◌≢◌, ℕ, ◌+◌, Bool, true, false, if◌then◌else◌, ◌==◌, List, [], ◌∷◌, ◌++◌, Option, Some, None, Result, Ok, Err}
+use Rattle.std.specs.Prelude.{◌≡◌, ◌≢◌, ℕ, ◌+◌, if◌then◌else◌, ◌==◌, List, [], ◌∷◌, ◌++◌, Option, Some, None, Result, Ok, Err}
 use Rattle.proof_lexer.specs.declared.token.Token.{Token}
 use Rattle.outline_reader.specs.declared.fault.Part.{Part}
 use Rattle.outline_reader.specs.declared.fault.Limit.{Limit}

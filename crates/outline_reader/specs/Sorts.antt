@@ -1,5 +1,5 @@
 -- What a token is for the outline; to be held against the notation's list of reserved words and its signs.
-use Rattle.std.specs.Prelude.{ℕ, Bool, true, false, ◌||◌, ◌==◌, if◌then◌else◌, List, [], ◌∷◌, codes}
+use Rattle.std.specs.Prelude.{ℕ, Bool, false, ◌||◌, ◌==◌, if◌then◌else◌, List, [], ◌∷◌, codes}
 use Rattle.std.specs.Str.{bytes_eq, chars}
 use Rattle.unicode_ident.specs.Ident.{is_xid_start}
 use Rattle.proof_lexer.specs.declared.token.Kind.{Kind}

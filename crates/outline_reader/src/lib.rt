@@ -4,6 +4,7 @@
 mod fault;
 mod fields;
 mod grammar;
+mod laws;
 mod limits;
 mod machine;
 mod parts;
@@ -13,5 +14,6 @@ mod sort;
 mod symbols;
 
 pub use fault::{Limit, OutlineFault, Part};
+pub use laws::{fields_are_found, portions_are_filled, portions_are_unique, tokens_are_outlined};
 pub use parts::{ArgText, Form, InputText, Just, Name, NamedForm, Outline, Portion};
 pub use reader::outline;

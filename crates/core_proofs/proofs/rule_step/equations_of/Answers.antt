@@ -1,4 +1,4 @@
-use Rattle.std.proofs.Common.{◌≡◌, length, map, sym, ◌∙◌}
+use Rattle.std.proofs.Common.{sym, ◌∙◌}
 use Rattle.std.proofs.lemmas.List.{length-map}
 use Rattle.rule_schemes.specs.View.{judgment_scheme}
 use Rattle.core_proofs.proofs.RuleFitting.{lengths_differ}

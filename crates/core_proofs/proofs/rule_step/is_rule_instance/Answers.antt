@@ -1,7 +1,6 @@
-use Rattle.std.proofs.Common.{◌≡◌, ◌↔◌, IsTrue, Some, None, is_some, map, option_map, ap, ◌∙◌, sym, subst}
-use Rattle.scheme_terms.specs.View.{names, substitution}
+use Rattle.std.proofs.Common.{map, option_map, ap, ◌∙◌, sym}
+use Rattle.scheme_terms.specs.View.{substitution}
 use Rattle.pattern_unify.specs.Equations.{equation}
-use Rattle.rule_schemes.specs.View.{theory, judgment_scheme, rule as plain_rule}
 use Rattle.core_proofs.proofs.RuleFitting.{none_is, decided, are_to_fit, nothing_bound, mapped_some}
 use Rattle.core_proofs.proofs.rule_step.is_rule_instance.Goals as goal
 

@@ -1,4 +1,4 @@
-use Rattle.std.proofs.Common.{◌≡◌, ◌+◌, ◌≤◌, length}
+use Rattle.std.proofs.Common.{◌≡◌, ◌+◌, length}
 use Rattle.outline_reader.specs.Fields.{more}
 use Rattle.outline_reader.proofs.fields.more.Given as goal
 

@@ -1,4 +1,4 @@
-use Rattle.std.proofs.Common.{◌≡◌, ◌++◌, reverse, length, map}
+use Rattle.std.proofs.Common.{◌≡◌, ◌++◌, reverse, map}
 use Rattle.outline_reader.specs.Derives.{await}
 use Rattle.outline_reader.proofs.machine.open.Given as goal
 

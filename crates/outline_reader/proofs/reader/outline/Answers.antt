@@ -1,8 +1,7 @@
-use Rattle.std.proofs.Common.{◌≡◌, map, sym, ◌∙◌, ap, Ok, Err, rules}
+use Rattle.std.proofs.Common.{◌≡◌, sym, ◌∙◌, ap, Ok, rules}
 use Rattle.std.proofs.lemmas.Result.{err_from_is_err_and}
 use Rattle.outline_reader.specs.Reading as spec
 use Rattle.outline_reader.specs.Portions.{portions}
-use Rattle.outline_reader.specs.Outline.{Answers}
 use Rattle.outline_reader.proofs.OutlineLemmas.{outlined, faulty}
 use Rattle.outline_reader.proofs.reader.outline.Goals as goal
 

@@ -1,4 +1,4 @@
-use Rattle.std.proofs.Common.{◌≡◌, ◌+◌, ◌∷◌, [], ◌++◌, reverse, length, get_or, drop, Option, Some, None, sym, ◌∙◌, ap, subst, Err, rules}
+use Rattle.std.proofs.Common.{◌≡◌, ◌+◌, ◌∷◌, [], ◌++◌, reverse, length, get_or, drop, Some, None, sym, ◌∙◌, ap, subst, Err, rules}
 use Rattle.std.proofs.lemmas.List.{drop_all}
 use Rattle.outline_reader.specs.declared.fault.OutlineFault.TheVariants.{Unexpected}
 use Rattle.outline_reader.specs.Reading as spec

@@ -1,0 +1,58 @@
+use Rattle.std.proofs.Common.{◌≡◌, map, None, Some, slice_get, refl, ap, sym, ◌∙◌, true≢false}
+use Rattle.std.specs.Prelude.{option_map}
+use Rattle.std.specs.Option.{option_copied}
+use Rattle.std.proofs.lemmas.Option.{slice_get-map}
+use Rattle.scheme_terms.specs.View.{names}
+use Rattle.rule_schemes.specs.View.{theory, judgment_scheme, rule}
+use Rattle.core_proofs.specs.Plain.{IsPlainForm}
+use Rattle.core_proofs.proofs.CitedForms.{uncited, no_rule, is_right, is_instance, cited_all, cited_are}
+use Rattle.core_proofs.proofs.PlainForms.{plain_form, plain_rule_at, step_form}
+use Rattle.core_proofs.proofs.citing.rule_fault.Goals as goal
+
+pub returns-in_default : goal.returns-in_default
+returns-in_default c =
+    let none = sym c.in_ok-cited.ensures ∙ ap (option_map (λ js. map (λ j. judgment_scheme j.now) js.items)) c.in_default.is in
+    (λ e. let no : ⊥ = cc in absurd no, λ right. absurd (uncited _ _ _ _ _ _ none right))
+
+pub is_rule_instance-requires-clause-form : goal.is_rule_instance-requires-clause-form
+is_rule_instance-requires-clause-form c = plain_form _ c.always_system.ensures.plain _ _ (c.is_form.ensures.0 c.if-not-is_form.false)
+
+pub is_rule_instance-requires-clause-cited : goal.is_rule_instance-requires-clause-cited
+is_rule_instance-requires-clause-cited c =
+    let some = sym c.in_ok-cited.ensures ∙ ap (option_map (λ js. map (λ j. judgment_scheme j.now) js.items)) c.in-Some.is in
+    let all = cited_all (IsPlainForm (theory c.args.system.now) (names c.args.scope.now)) (map judgment_scheme c.args.scoped.now) (map (λ id. id.0) c.args.on.now) _
+    c.requires.scoped (cited_are _ _ _ some) in
+    rw c.as_slice-in-Some-at.ensures.value all
+
+pub is_rule_instance-requires-clause-rule : goal.is_rule_instance-requires-clause-rule
+is_rule_instance-requires-clause-rule c =
+    let here : slice_get (theory c.args.system.now).rules c.args.rule.0 ≡ Some (rule c.in-Some-at.rule.now) =
+    slice_get-map rule c.args.system.now.rules c.args.rule.0
+    ∙ ap (option_map rule) (ap (λ rs. slice_get rs c.args.rule.0) (sym (c.as_slice.ensures.value ∙ c.rules-rules.ensures)) ∙ sym c.at.ensures ∙ ap option_copied c.in-Some-at.is) in
+    plain_rule_at _ c.always_system.ensures.plain _ _ here
+
+pub returns-then-branch : goal.returns-then-branch
+returns-then-branch c =
+    let some = sym c.in_ok-cited.ensures ∙ ap (option_map (λ js. map (λ j. judgment_scheme j.now) js.items)) c.in-Some.is in
+    let here : slice_get (theory c.args.system.now).rules c.args.rule.0 ≡ Some (rule c.in-Some-at.rule.now) =
+    slice_get-map rule c.args.system.now.rules c.args.rule.0
+    ∙ ap (option_map rule) (ap (λ rs. slice_get rs c.args.rule.0) (sym (c.as_slice.ensures.value ∙ c.rules-rules.ensures)) ∙ sym c.at.ensures ∙ ap option_copied c.in-Some-at.is) in
+    let form_is = step_form _ c.always_system.ensures.plain _ _ c.requires.scope.root (c.is_form.ensures.0 c.if-not-is_form.false) in
+    let judged = rw c.as_slice-in-Some-at.ensures.value at c.in_ok-is_rule_instance-in-Some-at.ensures in
+    (λ e. is_right _ _ _ _ _ _ _ _ some here form_is (judged.0 c.if-branch.true), λ right. refl)
+
+pub returns-in-Some-at : goal.returns-in-Some-at
+returns-in-Some-at c =
+    let some = sym c.in_ok-cited.ensures ∙ ap (option_map (λ js. map (λ j. judgment_scheme j.now) js.items)) c.in-Some.is in
+    let here : slice_get (theory c.args.system.now).rules c.args.rule.0 ≡ Some (rule c.in-Some-at.rule.now) =
+    slice_get-map rule c.args.system.now.rules c.args.rule.0
+    ∙ ap (option_map rule) (ap (λ rs. slice_get rs c.args.rule.0) (sym (c.as_slice.ensures.value ∙ c.rules-rules.ensures)) ∙ sym c.at.ensures ∙ ap option_copied c.in-Some-at.is) in
+    let judged = rw c.as_slice-in-Some-at.ensures.value at c.in_ok-is_rule_instance-in-Some-at.ensures in
+    (λ e. let no : ⊥ = cc in absurd no, λ right. absurd (true≢false (sym (judged.1 (is_instance _ _ _ _ _ _ _ _ some here right)) ∙ c.if-branch.false)))
+
+pub returns : goal.returns
+returns c =
+    let none : slice_get (theory c.args.system.now).rules c.args.rule.0 ≡ None =
+    slice_get-map rule c.args.system.now.rules c.args.rule.0
+    ∙ ap (option_map rule) (ap (λ rs. slice_get rs c.args.rule.0) (sym (c.as_slice.ensures.value ∙ c.rules-rules.ensures)) ∙ sym c.at.ensures ∙ ap option_copied c.in-None.is) in
+    (λ e. let no : ⊥ = cc in absurd no, λ right. absurd (no_rule _ _ _ _ _ _ none right))

@@ -1,0 +1,12 @@
+use Rattle.std.proofs.Common.{◌≤◌, ◌↔◌, [], map, drop, length}
+use Rattle.binding_terms.specs.Signature.{slots}
+use Rattle.scheme_terms.specs.SchemeScope.{AreSchemes}
+use Rattle.scheme_terms.specs.View.{names, scheme}
+use Rattle.core_proofs.proofs.form.are_arguments.Given as goal
+
+abbrev pub invariant-loop-item : goal.invariant-loop-item
+invariant-loop-item l = record {
+  in_range : l.next ≤ length l.args;
+  rest : AreSchemes l.sig (names l.scope) [] (slots l.items) (map scheme l.args)
+      ↔ AreSchemes l.sig (names l.scope) [] (slots (drop l.item-index l.items)) (map scheme (drop l.next l.args));
+}

@@ -1,0 +1,21 @@
+//! Tests that cross the crates: worked texts, from their bytes on.
+#![tactic(auto)]
+
+#[cfg(test)]
+mod outlines;
+#[cfg(test)]
+mod readings;
+#[cfg(test)]
+mod rows;
+#[cfg(test)]
+mod schemes;
+#[cfg(test)]
+mod shown;
+#[cfg(test)]
+mod texts;
+#[cfg(test)]
+mod theorems;
+#[cfg(test)]
+mod theories;
+#[cfg(test)]
+mod tokens;
