@@ -18,7 +18,8 @@ use Rattle.rule_schemes.specs.Said.{Want, want_judgment, Written, a_judgment, Re
 use Rattle.rule_schemes.specs.Statement.{OccursInJudgment}
 use Rattle.rule_schemes.specs.declared.rule.Judgment.{Judgment}
 use Rattle.scheme_terms.specs.Forms.{KnownVariable, SchemeEntry}
-use Rattle.judgments.specs.Bare.{IsBareSignature, IsBareJudgment}
+use Rattle.user_grammar.specs.Bare.{IsBareSignature}
+use Rattle.judgments.specs.Bare.{IsBareJudgment}
 use Rattle.judgments.specs.Collected.{StandsIn, IsCollected, AreCollected}
 use Rattle.judgments.specs.Laws.{AreBareNames, ReadingsAreInScope, IsNamedIn, SpellingsAreNames}
 use Rattle.judgments.specs.Named.{IsWordOf, IsNamed, AreNamesOf}
@@ -154,7 +155,7 @@ module _ (sig : Signature) (bare : IsBareSignature sig) (forms : List (List Toke
       let here = joined_word forms m.name (h.0).written in (
         record {
           written = here;
-          cat = plain_spelling sig.cats m.cat.0 m.name bare.no_context (h.0).cat;
+          cat = plain_spelling sig.cats m.cat.0 m.name bare.plain.no_context (h.0).cat;
           params = subst (λ (ps : List CatId). Rattle.rule_schemes.specs.NewNames.HasParameters sig m.name forms (map (λ p. p.0) ps)) (sym (h.0).params) (has_no_parameters sig m.name forms none here);
           few = (let none : length m.params ≡ 0 = ap length (h.0).params in omega arith);
         },
@@ -173,13 +174,13 @@ module _ (sig : Signature) (bare : IsBareSignature sig) (forms : List (List Toke
   collected_each metas h = all_map (IsNamed sig forms) (IsCollected sig.cats (joined forms)) (λ m n. record {
     written = word_joined forms m.name n.written;
     cat = spelling_plain sig.cats m.cat.0 m.name n.cat;
-    params = none_mapped m.params (parameters_none sig bare.no_variable m.name forms (map (λ p. p.0) m.params) n.params);
+    params = none_mapped m.params (parameters_none sig bare.variables m.name forms (map (λ p. p.0) m.params) n.params);
   }) metas h
 
   pub collected_from : (metas : List MetaDecl) → AreNamesOf sig forms metas → Rattle.rule_schemes.specs.NewNames.AreInOrder (joined forms) metas → AreCollected sig.cats (joined forms) metas
   collected_from metas h order = record {
     each = collected_each metas h.each;
-    all = λ w c s spelled. h.all w c (joined_word forms w s) (plain_spelling sig.cats c w bare.no_context spelled);
+    all = λ w c s spelled. h.all w c (joined_word forms w s) (plain_spelling sig.cats c w bare.plain.no_context spelled);
     differ = h.differ;
     in_order = order;
   }

@@ -15,7 +15,8 @@ use Rattle.rule_schemes.specs.Plain.{IsPlainSignature}
 use Rattle.rule_schemes.specs.Reading.{Token}
 use Rattle.rule_schemes.specs.Rules.{Rule, Theory, JudgmentFits, argument_slots, IsSystem}
 use Rattle.rule_schemes.specs.declared.rule.Judgment.{Judgment}
-use Rattle.judgments.specs.Bare.{IsBareSignature, IsBareJudgment, IsBareTheory}
+use Rattle.user_grammar.specs.Bare.{IsBareSignature}
+use Rattle.judgments.specs.Bare.{IsBareJudgment, IsBareTheory}
 use Rattle.judgments.specs.Built.{IsBuiltJudgment, HasRulesOf}
 use Rattle.judgments.specs.Spellings.{IsSpellingOf, AreSpelledApart}
 use Rattle.judgments.specs.Texts.{JudgmentText, RuleText, as_read, judgments_in, rule_in, rules_in, block_after}
@@ -158,7 +159,7 @@ module _ (sig : Signature) (bare : IsBareSignature sig) (portions : List PlainPo
   plain_slots [] (i ∷ items) h = absurd h
   plain_slots (t ∷ form) [] h = tt
   plain_slots (t ∷ form) (Word text quoted ∷ items) h = plain_slots form items h.1
-  plain_slots (t ∷ form) (Slot c binds ∷ items) h = (plain_cat sig.cats c.0 t.text bare.no_context (h.0).1, plain_slots form items h.1)
+  plain_slots (t ∷ form) (Slot c binds ∷ items) h = (plain_cat sig.cats c.0 t.text bare.plain.no_context (h.0).1, plain_slots form items h.1)
   plain_slots (t ∷ form) (Binder c ∷ items) h = absurd h.0
 
   pub judgment_fits : (text : JudgmentText) (j : Judgment) → IsBuiltJudgment sig portions text j → JudgmentFits sig j
@@ -170,7 +171,7 @@ module _ (sig : Signature) (bare : IsBareSignature sig) (portions : List PlainPo
   }
 
   pub plain_signature : IsPlainSignature sig
-  plain_signature = record { no_context = bare.no_context; no_binding = bare.no_binding }
+  plain_signature = bare.plain
 
 -- a token stands for one item at most
 module _ (sig : Signature) (apart : AreSpelledApart sig) (portions : List PlainPortion) where

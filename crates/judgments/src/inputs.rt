@@ -1,7 +1,7 @@
 // The inputs of a theorem that are derivations, and their names.
 ghost use Rattle.std.specs.Prelude.{◌≡◌, ◌↔◌, ◌⊎◌, ◌∷◌, [], IsTrue, IfOk, MatchOption, map};
 ghost use Rattle.std.specs.List.{AllByRecursion};
-ghost use Rattle.judgments.specs.Bare.{IsBareSignature};
+ghost use Rattle.user_grammar.specs.Bare.{IsBareSignature};
 ghost use Rattle.judgments.specs.Spellings.{IsNoSpelling};
 ghost use Rattle.judgments.specs.Statements.{IsNameless, IsNamedFreely, IsNamedOtherwise, AreNamedDifferently};
 ghost use Rattle.judgments.specs.Views.{input_text, given_text, IsForDerivation};

@@ -12,7 +12,8 @@ ghost use Rattle.rule_schemes.specs.View.{theory, judgment_scheme, statement_inp
 ghost use Rattle.scheme_terms.specs.declared.scheme.MetaDecl.{MetaDecl};
 ghost use Rattle.notation_parser.specs.Plain.{IsPlain};
 ghost use Rattle.notation_parser.specs.View.{reading_scope};
-ghost use Rattle.judgments.specs.Bare.{IsBareSignature, IsBareTheory, IsBareStatement};
+ghost use Rattle.user_grammar.specs.Bare.{IsBareSignature};
+ghost use Rattle.judgments.specs.Bare.{IsBareTheory, IsBareStatement};
 ghost use Rattle.judgments.specs.Built.{IsBuiltTheorem, bare_text};
 ghost use Rattle.judgments.specs.Collected.{AreCollected};
 ghost use Rattle.judgments.specs.Statements.{AreStatementsOf, IsNamedFreely, AreNamedDifferently};
