@@ -15,22 +15,24 @@ use Rattle.outline_reader.specs.Plain.{PlainPortion}
 use Rattle.judgments.specs.Spellings.{IsNoSpelling, IsSpellingOf}
 use Rattle.rule_schemes.specs.declared.rule.Judgment.{Judgment}
 use Rattle.user_grammar.specs.Bare.{IsNotAmbiguous}
-use Rattle.user_grammar.specs.Names.{category_names}
+use Rattle.user_grammar.specs.File.{listed_in, listed}
+use Rattle.user_grammar.specs.Names.{category_names, IsAmong}
 use Rattle.judgments.specs.Built.{IsBuiltItem, IsBuiltJudgment}
-use Rattle.judgments.specs.Texts.{IsListed, JudgmentText, judgment_in, judgments_in}
+use Rattle.judgments.specs.Texts.{JudgmentText, judgment_in, judgments_in}
 use Rattle.judgments.specs.Theory.{IsTerminalToken, IsItemOf}
+use Rattle.judgments.proofs.Collecting.{any_front, any_back, any_split}
 use Rattle.judgments.proofs.Zips.{zip_append, zip_split, map_append, zip_map, zip_both, zip_right}
 
 -- a word that is no numeral
 pub word_terminal : (sig : Signature) (portions : List PlainPortion) (token : PlainToken) (r : Bool) → token.kind ≡ 0 → IsNoSpelling sig.cats token.text
-    → is_numeral token.text ≡ false → (IsTrue r ↔ IsListed portions token.text) → IsTrue r ↔ IsTerminalToken sig portions token
-word_terminal sig portions token r kind none numeral listed = (
-  λ t. record { kind = inl kind; word = λ _. (none, inl (listed.0 t)); quoted = λ k. (let never : 0 ≡ 4 = sym kind ∙ k in omega arith) },
+    → is_numeral token.text ≡ false → (IsTrue r ↔ IsAmong (listed portions) token.text) → IsTrue r ↔ IsTerminalToken sig portions token
+word_terminal sig portions token r kind none numeral test = (
+  λ t. record { kind = inl kind; word = λ _. (none, inl (test.0 t)); quoted = λ k. (let never : 0 ≡ 4 = sym kind ∙ k in omega arith) },
   λ h. (let k = (h.word kind).1 in which k),
 )
   where
-    which : IsListed portions token.text ⊎ IsTrue (is_numeral token.text) → IsTrue r
-    which (inl l) = listed.1 l
+    which : IsAmong (listed portions) token.text ⊎ IsTrue (is_numeral token.text) → IsTrue r
+    which (inl l) = test.1 l
     which (inr n) = (let never : false ≡ true = sym numeral ∙ n in cc)
 
 -- the judgment of these items
@@ -104,3 +106,19 @@ spelled_none (k ∷ cats) w f = (f zero, spelled_none cats w (λ c. f (suc c)))
 -- a name that is no spelling of a category, where there are no variables
 pub free_name : (sig : Signature) (w : List ℕ) → AllByRecursion (λ (k : Cat). k.var ≡ None) sig.cats → IsNoSpelling sig.cats w ↔ IsFreeName sig w
 free_name sig w variables = (λ none c. (none_spelled sig.cats c w none, not_variable sig.cats c w variables), λ free. spelled_none sig.cats w (λ c. (free c).0))
+
+-- what one portion lists, or those after it
+pub listed_step : {X : Type 0} (f : X → PlainPortion) (text : List ℕ) (xs : List X) (i : ℕ) (d : X) → i < length xs
+    → IsAmong (listed (map f (drop i xs))) text ↔ (IsAmong (listed_in (f (get_or xs i d))) text ⊎ IsAmong (listed (map f (drop (i + 1) xs))) text)
+listed_step {X} f text xs i d lt =
+    subst (λ (l : List X). IsAmong (listed (map f l)) text ↔ (IsAmong (listed_in (f (get_or xs i d))) text ⊎ IsAmong (listed (map f (drop (i + 1) xs))) text)) (sym (drop_more xs i d lt))
+    (any_split (λ one. one ≡ text) (listed_in (f (get_or xs i d))) (listed (map f (drop (i + 1) xs))), either)
+  where
+    either : IsAmong (listed_in (f (get_or xs i d))) text ⊎ IsAmong (listed (map f (drop (i + 1) xs))) text
+        → IsAmong (listed_in (f (get_or xs i d)) ++ listed (map f (drop (i + 1) xs))) text
+    either (inl h) = any_front (λ one. one ≡ text) (listed_in (f (get_or xs i d))) (listed (map f (drop (i + 1) xs))) h
+    either (inr h) = any_back (λ one. one ≡ text) (listed_in (f (get_or xs i d))) (listed (map f (drop (i + 1) xs))) h
+
+pub right_of : (A B : Type 0) (r : Bool) → (IsTrue r ↔ A) → r ≡ false → A ⊎ B → B
+right_of A B r test fails (inl a) = absurd (let never : false ≡ true = sym fails ∙ test.1 a in cc)
+right_of A B r test fails (inr b) = b

@@ -1,8 +1,7 @@
 -- What the portions of a file declare: judgments, rules and theorems, in the order of the text. To be held against docs/notation.md, 'Outline'.
 use Rattle.std.specs.Prelude.{◌≡◌, ℕ, suc, ◌-◌, Bool, List, [], ◌∷◌, ◌++◌, map, Option, if◌then◌else◌}
-use Rattle.binding_terms.specs.Numbered.{AnyByRecursion}
 use Rattle.sy_base.specs.Tokens.{PlainToken}
-use Rattle.outline_reader.specs.Plain.{PlainPortion, terminals, judgment_of, rule_of, theorem_of, step_of, PlainInput, given_form, of_syntax, PlainArgument, name_alone, PlainJustification, by_induction, taken}
+use Rattle.outline_reader.specs.Plain.{PlainPortion, judgment_of, rule_of, theorem_of, step_of, PlainInput, given_form, of_syntax, PlainArgument, name_alone, PlainJustification, by_induction, taken}
 use Rattle.rule_schemes.specs.Reading.{Token}
 use Rattle.judgments.specs.Written.{WrittenInput, for_derivation, for_term}
 
@@ -31,15 +30,6 @@ pub record TheoremText : Type 0 where
   pub inputs : List WrittenInput
   pub outputs : List (List Token)
   pub targets : List PlainArgument
-
--- the terminals part lists the text
-abbrev pub ListsText : List ℕ → PlainPortion → Type 0
-ListsText text (terminals first items) = AnyByRecursion (λ item. text ≡ item.text) items
-ListsText text _ = ⊥
-
--- some terminals part lists the text
-abbrev pub IsListed : List PlainPortion → List ℕ → Type 0
-IsListed portions text = AnyByRecursion (ListsText text) portions
 
 abbrev pub judgment_in : PlainPortion → List JudgmentText
 judgment_in (judgment_of first name form assumes) = record { name = name.text; form = form; assumes = assumes } ∷ []

@@ -10,15 +10,17 @@ use Rattle.outline_reader.specs.Plain.{PlainPortion, judgment_of, rule_of, theor
 use Rattle.rule_schemes.specs.Reading.{IsNameOf, MayBeTerminal}
 use Rattle.rule_schemes.specs.Rules.{Rule, Theory, IsSystem, rule_root}
 use Rattle.rule_schemes.specs.declared.rule.Judgment.{Judgment}
+use Rattle.user_grammar.specs.File.{listed}
+use Rattle.user_grammar.specs.Names.{IsAmong}
 use Rattle.judgments.specs.Spellings.{IsSpellingOf, IsNoSpelling}
-use Rattle.judgments.specs.Texts.{JudgmentText, RuleText, IsListed, judgments_in, rules_in, rule_forms}
+use Rattle.judgments.specs.Texts.{JudgmentText, RuleText, judgments_in, rules_in, rule_forms}
 use Rattle.judgments.specs.Written.{TOKENS, IsRuleOf}
 
 -- A terminal in the form of a judgment: a listed word or a numeral that is no spelling of a category, a symbol, punctuation other than
 -- parentheses and brackets, or a quoted token other than a parenthesis.
 pub record IsTerminalToken (sig : Signature) (portions : List PlainPortion) (token : PlainToken) : Type 0 where
   pub kind : MayBeTerminal token.kind token.text
-  pub word : token.kind ≡ 0 → IsNoSpelling sig.cats token.text × (IsListed portions token.text ⊎ IsTrue (is_numeral token.text))
+  pub word : token.kind ≡ 0 → IsNoSpelling sig.cats token.text × (IsAmong (listed portions) token.text ⊎ IsTrue (is_numeral token.text))
   pub quoted : token.kind ≡ 4 → (token.text ≢ 40 ∷ []) × (token.text ≢ 41 ∷ [])
 
 -- The item for which a token of a judgment's form stands: a spelling of a category is a slot without brackets, a terminal keeps its quotes.
