@@ -12,11 +12,11 @@ use Rattle.binding_terms.specs.declared.grammar.Item.TheVariants.{Word, Slot, Bi
 use Rattle.judgments.proofs.Spelling.{none_spelled}
 use Rattle.sy_base.specs.Tokens.{PlainToken, is_numeral}
 use Rattle.outline_reader.specs.Plain.{PlainPortion}
-use Rattle.judgments.specs.Spellings.{IsNoSpelling, IsSpellingOf}
+use Rattle.judgments.specs.Spellings.{IsNoSpelling}
 use Rattle.rule_schemes.specs.declared.rule.Judgment.{Judgment}
 use Rattle.user_grammar.specs.Bare.{IsNotAmbiguous}
 use Rattle.user_grammar.specs.File.{listed_in, listed}
-use Rattle.user_grammar.specs.Names.{category_names, IsAmong}
+use Rattle.user_grammar.specs.Names.{category_names, IsAmong, IsCategoryWord}
 use Rattle.judgments.specs.Built.{IsBuiltItem, IsBuiltJudgment}
 use Rattle.judgments.specs.Texts.{JudgmentText, judgment_in, judgments_in}
 use Rattle.judgments.specs.Theory.{IsTerminalToken, IsItemOf}
@@ -87,19 +87,19 @@ no_terminal sig portions token none other (Word text quoted) h = other (h.0).2
 no_terminal sig portions token none other (Slot c binds) h = none_spelled sig.cats c.0 token.text none (h.0).1
 no_terminal sig portions token none other (Binder c) h = h.0
 
-not_word : (sig : Signature) (portions : List PlainPortion) (token : PlainToken) (c : ℕ) → IsSpellingOf sig.cats c token.text → (token.kind ≡ 0 → ⊥) → (item : Item) → IsBuiltItem sig portions token item → ⊥
+not_word : (sig : Signature) (portions : List PlainPortion) (token : PlainToken) (c : ℕ) → IsCategoryWord sig.cats c token.text → (token.kind ≡ 0 → ⊥) → (item : Item) → IsBuiltItem sig portions token item → ⊥
 not_word sig portions token c spelled other (Word text quoted) h = none_spelled sig.cats c token.text (subst (IsNoSpelling sig.cats) (h.0).0 h.1) spelled
 not_word sig portions token c spelled other (Slot d binds) h = other (h.0).0
 not_word sig portions token c spelled other (Binder d) h = h.0
 
 -- the slot of a category whose spelling the token is
-pub slot_item : (sig : Signature) (portions : List PlainPortion) (token : PlainToken) (cat : CatId) (found : Option Item) → IsSpellingOf sig.cats cat.0 token.text
+pub slot_item : (sig : Signature) (portions : List PlainPortion) (token : PlainToken) (cat : CatId) (found : Option Item) → IsCategoryWord sig.cats cat.0 token.text
     → MatchOption found (token.kind ≡ 0 → ⊥) (λ item. (token.kind ≡ 0) × (item ≡ Slot cat []))
     → MatchOption found ((item : Item) → IsBuiltItem sig portions token item → ⊥) (λ item. IsBuiltItem sig portions token item)
 slot_item sig portions token cat None spelled other = not_word sig portions token cat.0 spelled other
 slot_item sig portions token cat (Some item) spelled h = subst (IsBuiltItem sig portions token) (sym h.1) ((h.0, spelled, refl), tt)
 
-spelled_none : (cats : List Cat) (w : List ℕ) → ((c : ℕ) → IsSpellingOf cats c w → ⊥) → IsNoSpelling cats w
+spelled_none : (cats : List Cat) (w : List ℕ) → ((c : ℕ) → IsCategoryWord cats c w → ⊥) → IsNoSpelling cats w
 spelled_none [] w f = tt
 spelled_none (k ∷ cats) w f = (f zero, spelled_none cats w (λ c. f (suc c)))
 

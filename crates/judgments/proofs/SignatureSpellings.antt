@@ -3,9 +3,8 @@ use Rattle.std.proofs.Common.{◌≡◌, ℕ, zero, suc, List, [], ◌∷◌, �
 use Rattle.std.specs.List.{AllByRecursion}
 use Rattle.binding_terms.specs.declared.grammar.Cat.{Cat}
 use Rattle.rule_schemes.specs.Reading.{IsSpelling}
-use Rattle.user_grammar.specs.Names.{category_names, variable_names, AreApart, AllApart}
+use Rattle.user_grammar.specs.Names.{category_names, variable_names, AreApart, AllApart, IsCategoryWord}
 use Rattle.judgments.specs.Laws.{SignaturesSpellApart}
-use Rattle.judgments.specs.Spellings.{IsSpellingOf}
 
 some_front : (name : List ℕ) (xs ys : List (List ℕ)) → AllByRecursion (AreApart name) (xs ++ ys) → AllByRecursion (AreApart name) xs
 some_front name [] ys h = tt
@@ -15,12 +14,12 @@ apart_front : (xs ys : List (List ℕ)) → AllApart (xs ++ ys) → AllApart xs
 apart_front [] ys h = tt
 apart_front (x ∷ xs) ys h = (some_front x xs ys h.0, apart_front xs ys h.1)
 
-not_later : (name : List ℕ) (cats : List Cat) (d : ℕ) (w : List ℕ) → AllByRecursion (AreApart name) (category_names cats) → IsSpelling name w → IsSpellingOf cats d w → ⊥
+not_later : (name : List ℕ) (cats : List Cat) (d : ℕ) (w : List ℕ) → AllByRecursion (AreApart name) (category_names cats) → IsSpelling name w → IsCategoryWord cats d w → ⊥
 not_later name [] d w apart h k = k
 not_later name (cat ∷ cats) zero w apart h k = (apart.0).nothing_common w h k
 not_later name (cat ∷ cats) (suc d) w apart h k = not_later name cats d w apart.1 h k
 
-one_category : (cats : List Cat) → AllApart (category_names cats) → (c d : ℕ) (w : List ℕ) → IsSpellingOf cats c w → IsSpellingOf cats d w → c ≡ d
+one_category : (cats : List Cat) → AllApart (category_names cats) → (c d : ℕ) (w : List ℕ) → IsCategoryWord cats c w → IsCategoryWord cats d w → c ≡ d
 one_category [] apart c d w h k = absurd h
 one_category (cat ∷ cats) apart zero zero w h k = refl
 one_category (cat ∷ cats) apart zero (suc d) w h k = absurd (not_later cat.name cats d w apart.0 h k)

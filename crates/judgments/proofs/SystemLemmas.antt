@@ -18,12 +18,13 @@ use Rattle.rule_schemes.specs.declared.rule.Judgment.{Judgment}
 use Rattle.user_grammar.specs.Bare.{IsBareSignature}
 use Rattle.judgments.specs.Bare.{IsBareJudgment, IsBareTheory}
 use Rattle.judgments.specs.Built.{IsBuiltJudgment, HasRulesOf}
-use Rattle.judgments.specs.Spellings.{IsSpellingOf, AreSpelledApart}
+use Rattle.judgments.specs.Spellings.{AreSpelledApart}
 use Rattle.judgments.specs.Texts.{JudgmentText, RuleText, as_read, judgments_in, rule_in, rules_in, block_after}
 use Rattle.judgments.specs.Theory.{IsItemOf, IsJudgmentOf, IsBlockRule, IsTheoryOf, AreNamedApart, a_judgment, a_rule}
 use Rattle.judgments.proofs.RuleLemmas.{one_rule}
 use Rattle.judgments.proofs.Spelling.{none_spelled}
 use Rattle.judgments.proofs.Zips.{zip_append, zip_split, zip_unique, zip_right, zip_both, zip_map, map_append}
+use Rattle.user_grammar.specs.Names.{IsCategoryWord}
 
 -- forms are read as their tokens are lent
 pub form_read : (ts : List of_token.Token) → map taken (map token_view ts) ≡ map kind_and_text ts
@@ -133,7 +134,7 @@ module _ {X : Type 0} (f : X → PlainPortion) (xs : List X) (i : ℕ) (d : X) (
 
 -- a judgment of a bare theory fits its signature
 module _ (sig : Signature) (bare : IsBareSignature sig) (portions : List PlainPortion) where
-  plain_cat : (cats : List Cat) (c : ℕ) (w : List ℕ) → AllByRecursion (λ (cat : Cat). cat.context ≡ false) cats → IsSpellingOf cats c w → MatchOption (slice_get cats c) ⊥ (λ cat. cat.context ≡ false)
+  plain_cat : (cats : List Cat) (c : ℕ) (w : List ℕ) → AllByRecursion (λ (cat : Cat). cat.context ≡ false) cats → IsCategoryWord cats c w → MatchOption (slice_get cats c) ⊥ (λ cat. cat.context ≡ false)
   plain_cat [] c w none h = h
   plain_cat (k ∷ cats) zero w none h = none.0
   plain_cat (k ∷ cats) (suc c) w none h = plain_cat cats c w none.1 h

@@ -1,10 +1,7 @@
 -- What is built so far: theories without variables and contexts, and statements on derivations alone.
-use Rattle.std.specs.Prelude.{◌≡◌, false, List, [], None}
+use Rattle.std.specs.Prelude.{◌≡◌, List, [], None}
 use Rattle.std.specs.List.{AllByRecursion}
-use Rattle.binding_terms.specs.Signature.{Signature, slots}
 use Rattle.binding_terms.specs.declared.grammar.Cat.{Cat}
-use Rattle.binding_terms.specs.declared.grammar.Item.{Item}
-use Rattle.binding_terms.specs.declared.grammar.Item.TheVariants.{Word, Slot, Binder}
 use Rattle.scheme_terms.specs.declared.scheme.Root.TheVariants.{Closed}
 use Rattle.rule_schemes.specs.Rules.{Theory}
 use Rattle.rule_schemes.specs.Statement.{StatementInput, given, syntax_input, Theorem}

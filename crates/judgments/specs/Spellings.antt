@@ -7,17 +7,13 @@ use Rattle.rule_schemes.specs.Reading.{IsSpelling}
 use Rattle.user_grammar.specs.Names as names
 use Rattle.user_grammar.specs.Names.{category_names, IsCategoryWord}
 
--- the word is a spelling of the category with this number
-abbrev pub IsSpellingOf : List Cat → (cat : ℕ) → List ℕ → Type 0
-IsSpellingOf cats c w = IsCategoryWord cats c w
-
 -- the word is a spelling of none of the categories
 abbrev pub IsNoSpelling : List Cat → List ℕ → Type 0
 IsNoSpelling cats w = names.IsNoSpelling (category_names cats) w
 
 -- no word is a spelling of two categories
 abbrev pub AreSpelledApart : Signature → Type 0
-AreSpelledApart sig = (c d : ℕ) (w : List ℕ) → IsSpellingOf sig.cats c w → IsSpellingOf sig.cats d w → c ≡ d
+AreSpelledApart sig = (c d : ℕ) (w : List ℕ) → IsCategoryWord sig.cats c w → IsCategoryWord sig.cats d w → c ≡ d
 
 -- neither name is a spelling of the other
 abbrev pub AreApart : (one other : List ℕ) → Type 0

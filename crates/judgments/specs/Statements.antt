@@ -9,10 +9,10 @@ use Rattle.scheme_terms.specs.declared.scheme.Root.TheVariants.{Closed, Whole}
 use Rattle.rule_schemes.specs.Reading.{word, IsNameOf, IsVariableWord}
 use Rattle.rule_schemes.specs.Rules.{Theory}
 use Rattle.rule_schemes.specs.Statement.{Theorem, IsStatement, IsTheoremScope, IsWithinEntries, HasNoFault}
-use Rattle.judgments.specs.Spellings.{IsSpellingOf}
 use Rattle.judgments.specs.Texts.{TheoremText, as_read, theorems_in}
 use Rattle.judgments.specs.Theory.{a_theorem, AreNamedApart}
 use Rattle.judgments.specs.Written.{WrittenInput, for_derivation, for_term, IsStatementOf}
+use Rattle.user_grammar.specs.Names.{IsCategoryWord}
 
 -- the root of a theorem: the whole context of the category with exactly the name that it assumes, or none
 abbrev pub IsAssumedRoot : Signature → Option PlainToken → Root → Type 0
@@ -22,7 +22,7 @@ IsAssumedRoot sig _ _ = ⊥
 
 -- the word is no spelling of a category or of a variable
 abbrev pub IsFreeName : Signature → List ℕ → Type 0
-IsFreeName sig w = (c : ℕ) → (IsSpellingOf sig.cats c w → ⊥) × (IsVariableWord sig c w → ⊥)
+IsFreeName sig w = (c : ℕ) → (IsCategoryWord sig.cats c w → ⊥) × (IsVariableWord sig c w → ⊥)
 
 -- the word of a target: a name, alone or in parentheses
 abbrev pub IsTargetWord : PlainArgument → List ℕ → Type 0

@@ -1,5 +1,5 @@
 -- What the portions of a file declare: judgments, rules and theorems, in the order of the text. To be held against docs/notation.md, 'Outline'.
-use Rattle.std.specs.Prelude.{◌≡◌, ℕ, suc, ◌-◌, Bool, List, [], ◌∷◌, ◌++◌, map, Option, if◌then◌else◌}
+use Rattle.std.specs.Prelude.{ℕ, suc, ◌-◌, Bool, List, [], ◌∷◌, ◌++◌, map, Option, if◌then◌else◌}
 use Rattle.sy_base.specs.Tokens.{PlainToken}
 use Rattle.outline_reader.specs.Plain.{PlainPortion, judgment_of, rule_of, theorem_of, step_of, PlainInput, given_form, of_syntax, PlainArgument, name_alone, PlainJustification, by_induction, taken}
 use Rattle.rule_schemes.specs.Reading.{Token}

@@ -11,8 +11,8 @@ use Rattle.rule_schemes.specs.Reading.{IsNameOf, MayBeTerminal}
 use Rattle.rule_schemes.specs.Rules.{Rule, Theory, IsSystem, rule_root}
 use Rattle.rule_schemes.specs.declared.rule.Judgment.{Judgment}
 use Rattle.user_grammar.specs.File.{listed}
-use Rattle.user_grammar.specs.Names.{IsAmong}
-use Rattle.judgments.specs.Spellings.{IsSpellingOf, IsNoSpelling}
+use Rattle.user_grammar.specs.Names.{IsAmong, IsCategoryWord}
+use Rattle.judgments.specs.Spellings.{IsNoSpelling}
 use Rattle.judgments.specs.Texts.{JudgmentText, RuleText, judgments_in, rules_in, rule_forms}
 use Rattle.judgments.specs.Written.{TOKENS, IsRuleOf}
 
@@ -26,7 +26,7 @@ pub record IsTerminalToken (sig : Signature) (portions : List PlainPortion) (tok
 -- The item for which a token of a judgment's form stands: a spelling of a category is a slot without brackets, a terminal keeps its quotes.
 abbrev pub IsItemOf : Signature → List PlainPortion → PlainToken → Item → Type 0
 IsItemOf sig portions token (Word text quoted) = (text ≡ token.text) × (quoted ≡ (token.kind == 4)) × IsTerminalToken sig portions token
-IsItemOf sig portions token (Slot c binds) = (token.kind ≡ 0) × IsSpellingOf sig.cats c.0 token.text × (binds ≡ [])
+IsItemOf sig portions token (Slot c binds) = (token.kind ≡ 0) × IsCategoryWord sig.cats c.0 token.text × (binds ≡ [])
 IsItemOf sig portions token (Binder c) = ⊥
 
 -- the category of contexts that is assumed: the one with exactly this name

@@ -1,4 +1,3 @@
-use Rattle.std.proofs.Common.{◌≡◌, ◌↔◌}
 use Rattle.judgments.proofs.ItemLemmas.{free_name}
 use Rattle.judgments.proofs.inputs.is_named_freely.Goals as goal
 

@@ -1,4 +1,4 @@
-use Rattle.std.proofs.Common.{◌≡◌, ◌<◌, inl, inr, refl, length}
+use Rattle.std.proofs.Common.{inl, inr, refl}
 use Rattle.outline_reader.specs.Views.{portion_view}
 use Rattle.outline_reader.specs.Plain.{plain_portion}
 use Rattle.judgments.proofs.ItemLemmas.{listed_step, right_of}
