@@ -13,5 +13,4 @@ pub fn spellings_are_names()
 /// Over the signature of a file no word is a spelling of two categories.
 pub fn signatures_spell_apart()
     ensures { SignaturesSpellApart }
-{
-}
+{}
