@@ -18,16 +18,17 @@ use Rattle.rule_schemes.specs.Said.{Want, want_judgment, Written, a_judgment, Re
 use Rattle.rule_schemes.specs.Statement.{OccursInJudgment}
 use Rattle.rule_schemes.specs.declared.rule.Judgment.{Judgment}
 use Rattle.scheme_terms.specs.Forms.{KnownVariable, SchemeEntry}
-use Rattle.judgments.specs.Bare.{IsBareSignature, IsBareJudgment}
+use Rattle.user_grammar.specs.Bare.{IsBareSignature}
+use Rattle.judgments.specs.Bare.{IsBareJudgment}
 use Rattle.judgments.specs.Collected.{StandsIn, IsCollected, AreCollected}
 use Rattle.judgments.specs.Laws.{AreBareNames, ReadingsAreInScope, IsNamedIn, SpellingsAreNames}
 use Rattle.judgments.specs.Named.{IsWordOf, IsNamed, AreNamesOf}
-use Rattle.judgments.specs.Spellings.{IsSpellingOf}
 use Rattle.judgments.specs.Written.{settled, ReadsOnlyAs}
 use Rattle.judgments.proofs.Collecting.{all_map}
 use Rattle.judgments.proofs.ReadingLemmas.{all_at, IsAccounted, opens, closes, as_terminal, as_name, weaker, form_tokens, form_schemes}
 use Rattle.judgments.proofs.Spelling.{none_spelled}
 use Rattle.judgments.proofs.WordsOfForms.{joined, word_joined, joined_word, HasNoBracket, has_no_parameters, parameters_none}
+use Rattle.user_grammar.specs.Names.{IsCategoryWord}
 
 the_want : (want : Want) → slice_get (want_judgment ∷ []) 0 ≡ Some want → want ≡ want_judgment
 the_want want e = (let same : Some want_judgment ≡ Some want = e in cc)
@@ -41,11 +42,11 @@ wanted_judgment {sig = sig} {js = js} {scope = scope} {ms = ms} {ts = ts} {ks = 
     (let same : i ≡ j = cc in subst (λ (k : JudgmentScheme). ReadsJudgment sig js scope ms ts k ks) same r)
 
 -- a token that is a spelling of a category is a name
-accounted_word : (cats : List Cat) (metas : List MetaDecl) (P : ℕ → Type 0) (w : List ℕ) (c : ℕ) → IsAccounted cats metas P (word w) → IsSpellingOf cats c w
+accounted_word : (cats : List Cat) (metas : List MetaDecl) (P : ℕ → Type 0) (w : List ℕ) (c : ℕ) → IsAccounted cats metas P (word w) → IsCategoryWord cats c w
     → (m : ℕ) × (decl : MetaDecl) × (slice_get metas m ≡ Some decl) × (decl.name ≡ w) × P m
 accounted_word cats metas P w c (opens e) h = (let never : ◌≡◌ {A = ℕ} 0 2 = ap (λ (t : Token). t.0) e in absurd (omega arith))
 accounted_word cats metas P w c (closes e) h = (let never : ◌≡◌ {A = ℕ} 0 2 = ap (λ (t : Token). t.0) e in absurd (omega arith))
-accounted_word cats metas P w c (as_terminal text this none) h = absurd (none_spelled cats c text none (subst (IsSpellingOf cats c) this.0 h))
+accounted_word cats metas P w c (as_terminal text this none) h = absurd (none_spelled cats c text none (subst (IsCategoryWord cats c) this.0 h))
 accounted_word cats metas P w c (as_name m decl g e p) h = (m, decl, g, sym (ap (λ (t : Token). t.1) e), p)
 
 no_bracket_terminal : (text : List ℕ) → IsTerminal text (punctuation 91) → ⊥
@@ -106,13 +107,13 @@ module _ (sig : Signature) (js : List Judgment) (bare : IsBareSignature sig) (cl
   form_in_scope th es ej names plain form j h = judgment_in_scope th names es ej (reads_as names form j h) plain.knowns plain.parameters refl
 
   pub word_is_name : (names : Names) → AreBareNames names → (form : List Token) (j : JudgmentScheme) (w : List ℕ) (c : ℕ) → ReadsOnlyAs sig js names form j → StandsIn w form
-      → IsSpellingOf sig.cats c w → IsNamedIn names w (λ m. OccursInJudgment m j)
+      → IsCategoryWord sig.cats c w → IsNamedIn names w (λ m. OccursInJudgment m j)
   word_is_name names plain form j w c h s spelled =
       accounted_word sig.cats names.metas (λ m. OccursInJudgment m j) w c (pick (λ m. OccursInJudgment m j) w form (form_accounted names plain form j h) s) spelled
 
   -- the same for several forms
   pub word_is_name_of : (names : Names) → AreBareNames names → (forms : List (List Token)) (zs : List JudgmentScheme) (w : List ℕ) (c : ℕ) → AllZip (ReadsOnlyAs sig js names) forms zs
-      → IsWordOf forms w → IsSpellingOf sig.cats c w → IsNamedIn names w (λ m. AnyByRecursion (OccursInJudgment m) zs)
+      → IsWordOf forms w → IsCategoryWord sig.cats c w → IsNamedIn names w (λ m. AnyByRecursion (OccursInJudgment m) zs)
   word_is_name_of names plain [] [] w c h s spelled = absurd s
   word_is_name_of names plain [] (z ∷ zs) w c h s spelled = absurd h
   word_is_name_of names plain (form ∷ forms) [] w c h s spelled = absurd h
@@ -132,13 +133,13 @@ module _ (sig : Signature) (js : List Judgment) (bare : IsBareSignature sig) (cl
   )
 
 -- a spelling of a category is plain, where none is of contexts
-pub plain_spelling : (cats : List Cat) (c : ℕ) (w : List ℕ) → AllByRecursion (λ (cat : Cat). cat.context ≡ false) cats → IsSpellingOf cats c w
+pub plain_spelling : (cats : List Cat) (c : ℕ) (w : List ℕ) → AllByRecursion (λ (cat : Cat). cat.context ≡ false) cats → IsCategoryWord cats c w
     → MatchOption (slice_get cats c) ⊥ (λ cat. IsTrue (not cat.context) × IsSpelling cat.name w)
 plain_spelling [] c w none h = h
 plain_spelling (k ∷ cats) zero w none h = (ap not none.0, h)
 plain_spelling (k ∷ cats) (suc c) w none h = plain_spelling cats c w none.1 h
 
-pub spelling_plain : (cats : List Cat) (c : ℕ) (w : List ℕ) → MatchOption (slice_get cats c) ⊥ (λ cat. IsTrue (not cat.context) × IsSpelling cat.name w) → IsSpellingOf cats c w
+pub spelling_plain : (cats : List Cat) (c : ℕ) (w : List ℕ) → MatchOption (slice_get cats c) ⊥ (λ cat. IsTrue (not cat.context) × IsSpelling cat.name w) → IsCategoryWord cats c w
 spelling_plain [] c w h = h
 spelling_plain (k ∷ cats) zero w h = h.1
 spelling_plain (k ∷ cats) (suc c) w h = spelling_plain cats c w h
@@ -154,7 +155,7 @@ module _ (sig : Signature) (bare : IsBareSignature sig) (forms : List (List Toke
       let here = joined_word forms m.name (h.0).written in (
         record {
           written = here;
-          cat = plain_spelling sig.cats m.cat.0 m.name bare.no_context (h.0).cat;
+          cat = plain_spelling sig.cats m.cat.0 m.name bare.plain.no_context (h.0).cat;
           params = subst (λ (ps : List CatId). Rattle.rule_schemes.specs.NewNames.HasParameters sig m.name forms (map (λ p. p.0) ps)) (sym (h.0).params) (has_no_parameters sig m.name forms none here);
           few = (let none : length m.params ≡ 0 = ap length (h.0).params in omega arith);
         },
@@ -173,13 +174,13 @@ module _ (sig : Signature) (bare : IsBareSignature sig) (forms : List (List Toke
   collected_each metas h = all_map (IsNamed sig forms) (IsCollected sig.cats (joined forms)) (λ m n. record {
     written = word_joined forms m.name n.written;
     cat = spelling_plain sig.cats m.cat.0 m.name n.cat;
-    params = none_mapped m.params (parameters_none sig bare.no_variable m.name forms (map (λ p. p.0) m.params) n.params);
+    params = none_mapped m.params (parameters_none sig bare.variables m.name forms (map (λ p. p.0) m.params) n.params);
   }) metas h
 
   pub collected_from : (metas : List MetaDecl) → AreNamesOf sig forms metas → Rattle.rule_schemes.specs.NewNames.AreInOrder (joined forms) metas → AreCollected sig.cats (joined forms) metas
   collected_from metas h order = record {
     each = collected_each metas h.each;
-    all = λ w c s spelled. h.all w c (joined_word forms w s) (plain_spelling sig.cats c w bare.no_context spelled);
+    all = λ w c s spelled. h.all w c (joined_word forms w s) (plain_spelling sig.cats c w bare.plain.no_context spelled);
     differ = h.differ;
     in_order = order;
   }

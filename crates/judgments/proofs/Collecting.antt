@@ -9,10 +9,11 @@ use Rattle.scheme_terms.specs.SchemeScope.{AreDifferentNames}
 use Rattle.scheme_terms.specs.declared.scheme.MetaDecl.{MetaDecl}
 use Rattle.rule_schemes.specs.Reading.{Token, word}
 use Rattle.rule_schemes.specs.NewNames.{AreInOrder, StandsBefore}
-use Rattle.judgments.specs.Spellings.{IsSpellingOf, IsNoSpelling}
+use Rattle.judgments.specs.Spellings.{IsNoSpelling}
 use Rattle.judgments.specs.Collected.{IsAmong, StandsIn, IsCollected, AreCollected, IsKept, IsAdded, AreNext, AreCollectedFrom, IsLonger}
 use Rattle.judgments.proofs.Spelling.{none_spelled}
 use Rattle.judgments.proofs.Zips.{map_append}
+use Rattle.user_grammar.specs.Names.{IsCategoryWord}
 
 pub any_front : {A : Type 0} (P : A → Type 0) (xs ys : List A) → AnyByRecursion P xs → AnyByRecursion P (xs ++ ys)
 any_front P [] ys h = absurd h
@@ -87,11 +88,11 @@ module _ (cats : List Cat) (tokens : List Token) (t : Token) where
         in_order = order_more tokens (t ∷ []) before h.in_order;
       })
     where
-      here : (w : List ℕ) (c : ℕ) → IsSpellingOf cats c w → IsNoSpelling cats w ⊎ IsAmong w before → IsAmong w before
+      here : (w : List ℕ) (c : ℕ) → IsCategoryWord cats c w → IsNoSpelling cats w ⊎ IsAmong w before → IsAmong w before
       here w c spelled (inl none) = absurd (none_spelled cats c w none spelled)
       here w c spelled (inr a) = a
 
-      among : (w : List ℕ) (c : ℕ) → IsSpellingOf cats c w → StandsIn w tokens ⊎ StandsIn w (t ∷ []) → IsAmong w before
+      among : (w : List ℕ) (c : ℕ) → IsCategoryWord cats c w → StandsIn w tokens ⊎ StandsIn w (t ∷ []) → IsAmong w before
       among w c spelled (inl s) = h.all w c s spelled
       among w c spelled (inr (inl e)) = here w c spelled (k.no_new w e)
       among w c spelled (inr (inr never)) = absurd never
@@ -108,7 +109,7 @@ module _ (cats : List Cat) (tokens : List Token) (t : Token) where
             (λ s. k.new (h.all (k.decl).name (k.decl).cat.0 s k.cat)) k.new;
       })
     where
-      among : (w : List ℕ) (c : ℕ) → IsSpellingOf cats c w → StandsIn w tokens ⊎ StandsIn w (t ∷ []) → IsAmong w (before ++ k.decl ∷ [])
+      among : (w : List ℕ) (c : ℕ) → IsCategoryWord cats c w → StandsIn w tokens ⊎ StandsIn w (t ∷ []) → IsAmong w (before ++ k.decl ∷ [])
       among w c spelled (inl s) = any_front (λ (m : MetaDecl). m.name ≡ w) before (k.decl ∷ []) (h.all w c s spelled)
       among w c spelled (inr (inl e)) =
           let two : word w ≡ word (k.decl).name = sym e ∙ k.written in

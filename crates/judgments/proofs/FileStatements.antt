@@ -2,11 +2,11 @@
 use Rattle.std.proofs.Common.{◌≡◌, ◌≢◌, ◌+◌, ◌<◌, ℕ, Bool, List, [], ◌∷◌, ◌++◌, length, map, take, drop, get_or, refl, ap, ◌∙◌, sym, subst, arith, Option, Some, None, MatchOption, IfOk, Result, Ok, Err, append-nil, append_assoc}
 use Rattle.std.specs.Prelude.{option_map}
 use Rattle.std.specs.List.{AllByRecursion, AllZip}
-use Rattle.std.proofs.lemmas.List.{take_more, drop_more, take-append-drop}
+use Rattle.std.proofs.lemmas.List.{drop_more}
 use Rattle.sy_base.specs.Tokens.{PlainToken}
 use Rattle.proof_lexer.specs.View.{token_view, kind_and_text}
 use Rattle.proof_lexer.specs.declared.token.Token as of_token
-use Rattle.outline_reader.specs.Plain.{PlainPortion, plain_form, plain_input}
+use Rattle.outline_reader.specs.Plain.{PlainPortion, PlainArgument, name_alone, plain_form, plain_input}
 use Rattle.outline_reader.specs.Views.{input_view}
 use Rattle.outline_reader.specs.declared.parts.InputText.{InputText}
 use Rattle.scheme_terms.specs.declared.scheme.Root.{Root}
@@ -16,7 +16,7 @@ use Rattle.rule_schemes.specs.Rules.{Theory}
 use Rattle.rule_schemes.specs.Statement.{Theorem}
 use Rattle.judgments.specs.Bare.{IsBareTheory, IsBareStatement}
 use Rattle.judgments.specs.Built.{IsBuiltTheorem, bare_text}
-use Rattle.judgments.specs.Statements.{IsAssumedRoot, IsTheoremOf, AreTargetsEven, AreStatementsOf}
+use Rattle.judgments.specs.Statements.{IsAssumedRoot, IsTargetWord, IsTheoremOf, AreTargetsEven, AreStatementsOf}
 use Rattle.judgments.specs.Texts.{TheoremText, as_read, written_input, theorem_in, theorems_in, groups_after}
 use Rattle.judgments.specs.Theory.{a_theorem, AreNamedApart}
 use Rattle.judgments.specs.Views.{input_text}
@@ -24,58 +24,61 @@ use Rattle.judgments.specs.Written.{WrittenInput, IsTarget}
 use Rattle.judgments.proofs.StatementLemmas.{AreGiven}
 use Rattle.judgments.proofs.StatementSays.{all, one_statement}
 use Rattle.judgments.proofs.SystemLemmas.{forms_read}
-use Rattle.judgments.proofs.Zips.{zip_append, zip_split, zip_unique, zip_right, zip_both, zip_map, map_append}
+use Rattle.judgments.proofs.Zips.{zip_append, zip_split, zip_unique, zip_right, zip_both, zip_map}
 
--- the number of groups after portions
-abbrev pub groups_from : ℕ → List PlainPortion → ℕ
-groups_from n [] = n
-groups_from n (p ∷ ps) = groups_from (groups_after n p) ps
+module _ {X : Type 0} (f : X → PlainPortion) (R : TheoremText → Theorem → Type 0) (xs : List X) where
+  -- what is stated up to a portion, and what is left
+  pub record AreStated (n : ℕ) (rest : List X) (sts : List Theorem) : Type 0 where
+    pub done : List TheoremText
+    pub left : done ++ theorems_in n (map f rest) ≡ theorems_in 0 (map f xs)
+    pub stated : AllZip R done sts
 
-groups_append : (n : ℕ) (ps qs : List PlainPortion) → groups_from n (ps ++ qs) ≡ groups_from (groups_from n ps) qs
-groups_append n [] qs = refl
-groups_append n (p ∷ ps) qs = groups_append (groups_after n p) ps qs
+  pub nothing_stated : AreStated 0 xs []
+  nothing_stated = record { done = []; left = refl; stated = tt }
 
-theorems_append : (n : ℕ) (ps qs : List PlainPortion) → theorems_in n (ps ++ qs) ≡ theorems_in n ps ++ theorems_in (groups_from n ps) qs
-theorems_append n [] qs = refl
-theorems_append n (p ∷ ps) qs =
-    ap (λ l. theorem_in n p ++ l) (theorems_append (groups_after n p) ps qs) ∙ sym (append_assoc (theorem_in n p) (theorems_in (groups_after n p) ps) (theorems_in (groups_from (groups_after n p) ps) qs))
+  module _ (i : ℕ) (d : X) (lt : i < length xs) (n : ℕ) where
+    at_front : map f (drop i xs) ≡ f (get_or xs i d) ∷ map f (drop (i + 1) xs)
+    at_front = ap (map f) (drop_more xs i d lt)
 
-module _ {X : Type 0} (f : X → PlainPortion) (R : TheoremText → Theorem → Type 0) (xs : List X) (i : ℕ) (d : X) (lt : i < length xs) (n : ℕ) (e : n ≡ groups_from 0 (map f (take i xs))) where
-  one_more : map f (take (i + 1) xs) ≡ map f (take i xs) ++ f (get_or xs i d) ∷ []
-  one_more = ap (map f) (take_more xs i d lt) ∙ map_append f (take i xs) (get_or xs i d ∷ [])
+    one_more : (done : List TheoremText) → done ++ theorems_in n (map f (drop i xs)) ≡ theorems_in 0 (map f xs)
+        → done ++ theorem_in n (f (get_or xs i d)) (map f (drop (i + 1) xs)) ++ theorems_in (groups_after n (f (get_or xs i d))) (map f (drop (i + 1) xs)) ≡ theorems_in 0 (map f xs)
+    one_more done e =
+        append_assoc done (theorem_in n (f (get_or xs i d)) (map f (drop (i + 1) xs))) (theorems_in (groups_after n (f (get_or xs i d))) (map f (drop (i + 1) xs)))
+        ∙ ap (λ ps. done ++ theorems_in n ps) (sym at_front) ∙ e
 
-  pub next_groups : (m : ℕ) → m ≡ groups_after n (f (get_or xs i d)) → m ≡ groups_from 0 (map f (take (i + 1) xs))
-  next_groups m k = k ∙ ap (λ b. groups_after b (f (get_or xs i d))) e ∙ sym (ap (groups_from 0) one_more ∙ groups_append 0 (map f (take i xs)) (f (get_or xs i d) ∷ []))
+    -- the theorems of one portion more
+    pub next_stated : (m : ℕ) (sts more : List Theorem) → m ≡ groups_after n (f (get_or xs i d)) → AreStated n (drop i xs) sts
+        → AllZip R (theorem_in n (f (get_or xs i d)) (map f (drop (i + 1) xs))) more → AreStated m (drop (i + 1) xs) (sts ++ more)
+    next_stated m sts more e h k = record {
+      done = h.done ++ theorem_in n (f (get_or xs i d)) (map f (drop (i + 1) xs));
+      left = ap (λ b. h.done ++ theorem_in n (f (get_or xs i d)) (map f (drop (i + 1) xs)) ++ theorems_in b (map f (drop (i + 1) xs))) e ∙ one_more h.done h.left;
+      stated = zip_append R h.done (theorem_in n (f (get_or xs i d)) (map f (drop (i + 1) xs))) sts more h.stated k;
+    }
 
-  -- the theorems of one portion more
-  pub next_theorems : (sts more : List Theorem) → AllZip R (theorems_in 0 (map f (take i xs))) sts → AllZip R (theorem_in n (f (get_or xs i d))) more → AllZip R (theorems_in 0 (map f (take (i + 1) xs))) (sts ++ more)
-  next_theorems sts more h k =
-      let whole : theorems_in 0 (map f (take (i + 1) xs)) ≡ theorems_in 0 (map f (take i xs)) ++ theorem_in n (f (get_or xs i d)) =
-      ap (theorems_in 0) one_more ∙ theorems_append 0 (map f (take i xs)) (f (get_or xs i d) ∷ [])
-      ∙ ap (λ l. theorems_in 0 (map f (take i xs)) ++ l) (append-nil (theorem_in (groups_from 0 (map f (take i xs))) (f (get_or xs i d))) ∙ ap (λ b. theorem_in b (f (get_or xs i d))) (sym e)) in
-      subst (λ texts. AllZip R texts (sts ++ more)) (sym whole) (zip_append R (theorems_in 0 (map f (take i xs))) (theorem_in n (f (get_or xs i d))) sts more h k)
+    -- where one portion stands for no statement, the portions stand for none
+    pub no_theorems : (sts : List Theorem) → AreStated n (drop i xs) sts → ((more : List Theorem) → AllZip R (theorem_in n (f (get_or xs i d)) (map f (drop (i + 1) xs))) more → ⊥)
+        → (all : List Theorem) → AllZip R (theorems_in 0 (map f xs)) all → ⊥
+    no_theorems sts h none all k =
+        let here = theorem_in n (f (get_or xs i d)) (map f (drop (i + 1) xs)) in
+        let later = theorems_in (groups_after n (f (get_or xs i d))) (map f (drop (i + 1) xs)) in
+        let whole = sym (one_more h.done h.left) ∙ append_assoc h.done here later in
+        let two = zip_split R h.done (here ++ later) all (subst (λ texts. AllZip R texts all) whole k) in
+        let one = zip_split R here later two.1 two.4 in
+        none one.0 one.3
 
-  -- where one portion stands for no statement, the portions stand for none
-  pub no_theorems : ((sts : List Theorem) → AllZip R (theorem_in n (f (get_or xs i d))) sts → ⊥) → (sts : List Theorem) → AllZip R (theorems_in 0 (map f xs)) sts → ⊥
-  no_theorems none sts k =
-      let parts : map f xs ≡ map f (take i xs) ++ (f (get_or xs i d) ∷ map f (drop (i + 1) xs)) =
-      ap (map f) (sym (take-append-drop i xs) ∙ ap (λ l. take i xs ++ l) (drop_more xs i d lt)) ∙ map_append f (take i xs) (get_or xs i d ∷ drop (i + 1) xs) in
-      let whole : theorems_in 0 (map f xs) ≡ theorems_in 0 (map f (take i xs)) ++ (theorem_in n (f (get_or xs i d)) ++ theorems_in (groups_after n (f (get_or xs i d))) (map f (drop (i + 1) xs))) =
-      ap (theorems_in 0) parts ∙ theorems_append 0 (map f (take i xs)) (f (get_or xs i d) ∷ map f (drop (i + 1) xs))
-      ∙ ap (λ b. theorems_in 0 (map f (take i xs)) ++ (theorem_in b (f (get_or xs i d)) ++ theorems_in (groups_after b (f (get_or xs i d))) (map f (drop (i + 1) xs)))) (sym e) in
-      let two = zip_split R (theorems_in 0 (map f (take i xs))) (theorem_in n (f (get_or xs i d)) ++ theorems_in (groups_after n (f (get_or xs i d))) (map f (drop (i + 1) xs))) sts (subst (λ texts. AllZip R texts sts) whole k) in
-      let here = zip_split R (theorem_in n (f (get_or xs i d))) (theorems_in (groups_after n (f (get_or xs i d))) (map f (drop (i + 1) xs))) two.1 two.4 in
-      none here.0 here.3
+  pub all_stated : (n : ℕ) (rest : List X) (sts : List Theorem) → rest ≡ [] → AreStated n rest sts → AllZip R (theorems_in 0 (map f xs)) sts
+  all_stated n rest sts e h =
+      subst (λ texts. AllZip R texts sts) (sym (append-nil h.done) ∙ ap (λ (l : List X). h.done ++ theorems_in n (map f l)) (sym e) ∙ h.left) h.stated
 
 -- a theorem as it is stated
-abbrev pub stated_text : ℕ → List ℕ → Option PlainToken → List WrittenInput → List (List Token) → List (List ℕ) → TheoremText
+abbrev pub stated_text : ℕ → List ℕ → Option PlainToken → List WrittenInput → List (List Token) → List PlainArgument → TheoremText
 stated_text n w a inputs outputs targets = record { group = n; name = w; assumes = a; inputs = inputs; outputs = outputs; targets = targets }
 
 inputs_read_as : (xs : List InputText) → map written_input (map plain_input (map input_view xs)) ≡ map input_text xs
 inputs_read_as [] = refl
 inputs_read_as (x ∷ xs) = ap (λ l. input_text x ∷ l) (inputs_read_as xs)
 
-pub same_theorem : {X : Type 0} (now : X → List of_token.Token) (n : ℕ) (w : List ℕ) (a : Option PlainToken) (xs : List InputText) (ys : List X) (targets : List (List ℕ)) → a ≡ None → targets ≡ []
+pub same_theorem : {X : Type 0} (now : X → List of_token.Token) (n : ℕ) (w : List ℕ) (a : Option PlainToken) (xs : List InputText) (ys : List X) (targets : List PlainArgument) → a ≡ None → targets ≡ []
     → bare_text n w (map input_text xs) (map (λ y. map kind_and_text (now y)) ys) ≡ stated_text n w a (map written_input (map plain_input (map input_view xs))) (map as_read (map plain_form (map now ys))) targets
 same_theorem now n w a xs ys targets e t = λ i. record { group = n; name = w; assumes = sym e i; inputs = sym (inputs_read_as xs) i; outputs = sym (forms_read now ys) i; targets = sym t i }
 
@@ -99,8 +102,14 @@ no_targets inputs [] ns h e = refl
 no_targets inputs (v ∷ ws) [] h e = absurd h
 no_targets inputs (v ∷ ws) (n ∷ ns) h e = (let never : n ∷ ns ≡ [] = e in cc)
 
+no_words : (us : List PlainArgument) (ws : List (List ℕ)) → AllZip IsTargetWord us ws → ws ≡ [] → us ≡ []
+no_words [] ws h e = refl
+no_words (u ∷ us) [] h e = absurd h
+no_words (u ∷ us) (v ∷ ws) h e = (let never : v ∷ ws ≡ [] = e in cc)
+
 pub built_targets : (th : Theory) (text : TheoremText) (st : Theorem) → IsBuiltTheorem th text st → text.targets ≡ []
-built_targets th text st h = no_targets text.inputs text.targets st.targets ((h.0).written).targets_are (h.1).targets
+built_targets th text st h =
+    no_words text.targets (h.0).targets (h.0).target_words (no_targets text.inputs (h.0).targets st.targets ((h.0).written).targets_are (h.1).targets)
 
 pub targets_none : (th : Theory) (text : TheoremText) → text.targets ≢ [] → (sts : List Theorem) → AllZip (IsBuiltTheorem th) (text ∷ []) sts → ⊥
 targets_none th text some [] h = h
@@ -143,13 +152,28 @@ module _ (th : Theory) (bare : IsBareTheory th) (portions : List PlainPortion) w
   pub no_statements : ((sts : List Theorem) → AllZip (IsBuiltTheorem th) (theorems_in 0 portions) sts → ⊥) → (sts : List Theorem) → AreStatementsOf portions th sts → AllByRecursion IsBareStatement sts → ⊥
   no_statements none sts h k = none sts (built_from sts h k)
 
-pub no_texts : {X : Type 0} (now : X → of_token.Token) (xs : List X) → length xs ≡ 0 → map (λ (t : PlainToken). t.text) (map token_view (map now xs)) ≡ []
-no_texts now [] e = refl
-no_texts now (x ∷ xs) e = (let no : ⊥ = omega arith in absurd no)
+nothing_before : {A : Type 0} (xs ys : List A) → xs ++ ys ≡ [] → xs ≡ []
+nothing_before [] ys e = refl
+nothing_before (x ∷ xs) ys e = (let never : x ∷ xs ++ ys ≡ [] = e in cc)
 
-pub some_texts : {X : Type 0} (now : X → of_token.Token) (xs : List X) → (length xs ≡ 0 → ⊥) → map (λ (t : PlainToken). t.text) (map token_view (map now xs)) ≢ []
-some_texts now [] h e = h refl
-some_texts now (x ∷ xs) h e = (let both : (token_view (now x)).text ∷ map (λ (t : PlainToken). t.text) (map token_view (map now xs)) ≡ [] = e in cc)
+nothing_after : {A : Type 0} (xs ys : List A) → xs ++ ys ≡ [] → ys ≡ []
+nothing_after [] ys e = e
+nothing_after (x ∷ xs) ys e = (let never : x ∷ xs ++ ys ≡ [] = e in absurd cc)
+
+-- the targets of a theorem, of its line `use` and of its first step
+abbrev pub targets_of : {X : Type 0} (now : X → of_token.Token) → List X → List PlainArgument → List PlainArgument
+targets_of now xs more = map name_alone (map token_view (map now xs)) ++ more
+
+pub no_targets_at_all : {X : Type 0} (now : X → of_token.Token) (xs : List X) (more : List PlainArgument) → length xs ≡ 0 → more ≡ [] → targets_of now xs more ≡ []
+no_targets_at_all now [] more e f = f
+no_targets_at_all now (x ∷ xs) more e f = (let no : ⊥ = omega arith in absurd no)
+
+pub some_target : {X : Type 0} (now : X → of_token.Token) (xs : List X) (more : List PlainArgument) → (length xs ≡ 0 → ⊥) → targets_of now xs more ≢ []
+some_target now [] more h e = h refl
+some_target now (x ∷ xs) more h e = (let never : name_alone (token_view (now x)) ∷ targets_of now xs more ≡ [] = e in cc)
+
+pub first_step_target : {X : Type 0} (now : X → of_token.Token) (xs : List X) (more : List PlainArgument) → (more ≡ [] → ⊥) → targets_of now xs more ≢ []
+first_step_target now xs more h e = h (nothing_after (map name_alone (map token_view (map now xs))) more e)
 
 pub none_assumed : {X : Type 0} (now : X → of_token.Token) (o : Option X) → o ≡ None → option_map token_view (option_map now o) ≡ None
 none_assumed now o e = ap (λ p. option_map token_view (option_map now p)) e

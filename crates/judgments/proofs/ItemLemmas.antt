@@ -1,29 +1,38 @@
 -- The items for which tokens stand.
-use Rattle.std.proofs.Common.{◌≡◌, ◌↔◌, ◌⊎◌, ◌≤◌, ◌<◌, ◌+◌, IsTrue, Bool, true, false, ℕ, None, List, [], ◌∷◌, ◌++◌, length, map, take, drop, get_or, inl, inr, refl, ap, ◌∙◌, sym, subst, arith, append_assoc, append-nil}
+use Rattle.std.proofs.Common.{◌≡◌, ◌↔◌, ◌⊎◌, ◌≤◌, ◌<◌, ◌+◌, IsTrue, Bool, true, false, ℕ, None, List, [], ◌∷◌, ◌++◌, length, map, take, drop, get_or, inl, inr, refl, ap, ◌∙◌, sym, subst, arith, append_assoc, append-nil, zero, suc, Option, Some, MatchOption}
 use Rattle.std.proofs.lemmas.List.{take_more, drop_more, take-append-drop}
-use Rattle.std.specs.List.{AllZip}
+use Rattle.std.specs.List.{AllZip, AllByRecursion}
+use Rattle.binding_terms.specs.declared.grammar.Cat.{Cat}
+use Rattle.binding_terms.specs.declared.grammar.CatId.{CatId}
+use Rattle.judgments.specs.Statements.{IsFreeName}
+use Rattle.judgments.proofs.ReadingLemmas.{not_variable}
 use Rattle.binding_terms.specs.Signature.{Signature}
 use Rattle.binding_terms.specs.declared.grammar.Item.{Item}
+use Rattle.binding_terms.specs.declared.grammar.Item.TheVariants.{Word, Slot, Binder}
+use Rattle.judgments.proofs.Spelling.{none_spelled}
 use Rattle.sy_base.specs.Tokens.{PlainToken, is_numeral}
 use Rattle.outline_reader.specs.Plain.{PlainPortion}
 use Rattle.judgments.specs.Spellings.{IsNoSpelling}
 use Rattle.rule_schemes.specs.declared.rule.Judgment.{Judgment}
-use Rattle.judgments.specs.Bare.{IsBareItem}
+use Rattle.user_grammar.specs.Bare.{IsNotAmbiguous}
+use Rattle.user_grammar.specs.File.{listed_in, listed}
+use Rattle.user_grammar.specs.Names.{category_names, IsAmong, IsCategoryWord}
 use Rattle.judgments.specs.Built.{IsBuiltItem, IsBuiltJudgment}
-use Rattle.judgments.specs.Texts.{IsListed, JudgmentText, judgment_in, judgments_in}
+use Rattle.judgments.specs.Texts.{JudgmentText, judgment_in, judgments_in}
 use Rattle.judgments.specs.Theory.{IsTerminalToken, IsItemOf}
+use Rattle.judgments.proofs.Collecting.{any_front, any_back, any_split}
 use Rattle.judgments.proofs.Zips.{zip_append, zip_split, map_append, zip_map, zip_both, zip_right}
 
 -- a word that is no numeral
 pub word_terminal : (sig : Signature) (portions : List PlainPortion) (token : PlainToken) (r : Bool) → token.kind ≡ 0 → IsNoSpelling sig.cats token.text
-    → is_numeral token.text ≡ false → (IsTrue r ↔ IsListed portions token.text) → IsTrue r ↔ IsTerminalToken sig portions token
-word_terminal sig portions token r kind none numeral listed = (
-  λ t. record { kind = inl kind; word = λ _. (none, inl (listed.0 t)); quoted = λ k. (let never : 0 ≡ 4 = sym kind ∙ k in omega arith) },
+    → is_numeral token.text ≡ false → (IsTrue r ↔ IsAmong (listed portions) token.text) → IsTrue r ↔ IsTerminalToken sig portions token
+word_terminal sig portions token r kind none numeral test = (
+  λ t. record { kind = inl kind; word = λ _. (none, inl (test.0 t)); quoted = λ k. (let never : 0 ≡ 4 = sym kind ∙ k in omega arith) },
   λ h. (let k = (h.word kind).1 in which k),
 )
   where
-    which : IsListed portions token.text ⊎ IsTrue (is_numeral token.text) → IsTrue r
-    which (inl l) = listed.1 l
+    which : IsAmong (listed portions) token.text ⊎ IsTrue (is_numeral token.text) → IsTrue r
+    which (inl l) = test.1 l
     which (inr n) = (let never : false ≡ true = sym numeral ∙ n in cc)
 
 -- the judgment of these items
@@ -37,12 +46,12 @@ built_judgment sig portions v w form items named short h = (
     items = zip_map (IsBuiltItem sig portions) (IsItemOf sig portions) (λ t i b. b.0) form items h;
     assumed = tt;
   },
-  record { no_context = refl; terminals = zip_right (IsBuiltItem sig portions) (IsBareItem sig.cats) (λ t i b. b.1) form items h },
+  record { no_context = refl; terminals = zip_right (IsBuiltItem sig portions) (IsNotAmbiguous (category_names sig.cats)) (λ t i b. b.1) form items h },
 )
 
 pub no_judgment : (sig : Signature) (portions : List PlainPortion) (text : JudgmentText) → ((items : List Item) → AllZip (IsBuiltItem sig portions) text.form items → ⊥)
     → (j : Judgment) → IsBuiltJudgment sig portions text j → ⊥
-no_judgment sig portions text none j h = none j.items (zip_both (IsItemOf sig portions) (IsBareItem sig.cats) text.form j.items h.0.items h.1.terminals)
+no_judgment sig portions text none j h = none j.items (zip_both (IsItemOf sig portions) (IsNotAmbiguous (category_names sig.cats)) text.form j.items h.0.items h.1.terminals)
 
 judgments_append : (ps qs : List PlainPortion) → judgments_in (ps ++ qs) ≡ judgments_in ps ++ judgments_in qs
 judgments_append [] qs = refl
@@ -70,3 +79,46 @@ module _ {X : Type 0} (f : X → PlainPortion) (R : JudgmentText → Judgment �
       let parts = zip_split R (judgments_in (map f (take i xs))) (judgment_in (f (get_or xs i d)) ++ judgments_in (map f (drop (i + 1) xs))) js (subst (λ l. AllZip R l js) all h) in
       let here = zip_split R (judgment_in (f (get_or xs i d))) (judgments_in (map f (drop (i + 1) xs))) parts.1 parts.4 in
       none here.0 here.3
+
+-- a token that is no terminal and no spelling stands for no item
+pub no_terminal : (sig : Signature) (portions : List PlainPortion) (token : PlainToken) → IsNoSpelling sig.cats token.text → (IsTerminalToken sig portions token → ⊥)
+    → (item : Item) → IsBuiltItem sig portions token item → ⊥
+no_terminal sig portions token none other (Word text quoted) h = other (h.0).2
+no_terminal sig portions token none other (Slot c binds) h = none_spelled sig.cats c.0 token.text none (h.0).1
+no_terminal sig portions token none other (Binder c) h = h.0
+
+not_word : (sig : Signature) (portions : List PlainPortion) (token : PlainToken) (c : ℕ) → IsCategoryWord sig.cats c token.text → (token.kind ≡ 0 → ⊥) → (item : Item) → IsBuiltItem sig portions token item → ⊥
+not_word sig portions token c spelled other (Word text quoted) h = none_spelled sig.cats c token.text (subst (IsNoSpelling sig.cats) (h.0).0 h.1) spelled
+not_word sig portions token c spelled other (Slot d binds) h = other (h.0).0
+not_word sig portions token c spelled other (Binder d) h = h.0
+
+-- the slot of a category whose spelling the token is
+pub slot_item : (sig : Signature) (portions : List PlainPortion) (token : PlainToken) (cat : CatId) (found : Option Item) → IsCategoryWord sig.cats cat.0 token.text
+    → MatchOption found (token.kind ≡ 0 → ⊥) (λ item. (token.kind ≡ 0) × (item ≡ Slot cat []))
+    → MatchOption found ((item : Item) → IsBuiltItem sig portions token item → ⊥) (λ item. IsBuiltItem sig portions token item)
+slot_item sig portions token cat None spelled other = not_word sig portions token cat.0 spelled other
+slot_item sig portions token cat (Some item) spelled h = subst (IsBuiltItem sig portions token) (sym h.1) ((h.0, spelled, refl), tt)
+
+spelled_none : (cats : List Cat) (w : List ℕ) → ((c : ℕ) → IsCategoryWord cats c w → ⊥) → IsNoSpelling cats w
+spelled_none [] w f = tt
+spelled_none (k ∷ cats) w f = (f zero, spelled_none cats w (λ c. f (suc c)))
+
+-- a name that is no spelling of a category, where there are no variables
+pub free_name : (sig : Signature) (w : List ℕ) → AllByRecursion (λ (k : Cat). k.var ≡ None) sig.cats → IsNoSpelling sig.cats w ↔ IsFreeName sig w
+free_name sig w variables = (λ none c. (none_spelled sig.cats c w none, not_variable sig.cats c w variables), λ free. spelled_none sig.cats w (λ c. (free c).0))
+
+-- what one portion lists, or those after it
+pub listed_step : {X : Type 0} (f : X → PlainPortion) (text : List ℕ) (xs : List X) (i : ℕ) (d : X) → i < length xs
+    → IsAmong (listed (map f (drop i xs))) text ↔ (IsAmong (listed_in (f (get_or xs i d))) text ⊎ IsAmong (listed (map f (drop (i + 1) xs))) text)
+listed_step {X} f text xs i d lt =
+    subst (λ (l : List X). IsAmong (listed (map f l)) text ↔ (IsAmong (listed_in (f (get_or xs i d))) text ⊎ IsAmong (listed (map f (drop (i + 1) xs))) text)) (sym (drop_more xs i d lt))
+    (any_split (λ one. one ≡ text) (listed_in (f (get_or xs i d))) (listed (map f (drop (i + 1) xs))), either)
+  where
+    either : IsAmong (listed_in (f (get_or xs i d))) text ⊎ IsAmong (listed (map f (drop (i + 1) xs))) text
+        → IsAmong (listed_in (f (get_or xs i d)) ++ listed (map f (drop (i + 1) xs))) text
+    either (inl h) = any_front (λ one. one ≡ text) (listed_in (f (get_or xs i d))) (listed (map f (drop (i + 1) xs))) h
+    either (inr h) = any_back (λ one. one ≡ text) (listed_in (f (get_or xs i d))) (listed (map f (drop (i + 1) xs))) h
+
+pub right_of : (A B : Type 0) (r : Bool) → (IsTrue r ↔ A) → r ≡ false → A ⊎ B → B
+right_of A B r test fails (inl a) = absurd (let never : false ≡ true = sym fails ∙ test.1 a in cc)
+right_of A B r test fails (inr b) = b

@@ -18,3 +18,4 @@ pub mod StatementSays
 pub mod SystemLemmas
 pub mod WordsOfForms
 pub mod Zips
+pub mod SignatureSpellings

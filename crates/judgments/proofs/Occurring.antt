@@ -13,7 +13,8 @@ use Rattle.rule_schemes.specs.Reading.{Token, word, punctuation, Variable, Means
 use Rattle.rule_schemes.specs.Rules.{JudgmentScheme}
 use Rattle.rule_schemes.specs.Statement.{OccursInJudgment}
 use Rattle.rule_schemes.specs.declared.rule.Judgment.{Judgment}
-use Rattle.judgments.specs.Bare.{IsBareSignature, IsBareJudgment}
+use Rattle.user_grammar.specs.Bare.{IsBareSignature}
+use Rattle.judgments.specs.Bare.{IsBareJudgment}
 use Rattle.judgments.specs.Collected.{StandsIn}
 use Rattle.judgments.specs.Laws.{AreBareNames}
 use Rattle.judgments.specs.Named.{IsWordOf}
@@ -46,13 +47,13 @@ module _ (sig : Signature) (metas : List MetaDecl) (names : Names) (bare : IsBar
         (decl, subst (λ k. slice_get metas k ≡ Some decl) same g, subst (StandsIn decl.name) (sym e) (inl refl))
     term_numbers (variable {c = c} {w = w} {s = s} e h) v m o = absurd (subst (λ vs. Means 0 vs w c s) v h)
     term_numbers (production {p = p} {prod = prod} g c r) v m o =
-        item_numbers r v (all_at (λ (prod : Prod). AllByRecursion (λ (s : Place). s.binds ≡ []) (slots prod.items)) sig.prods p prod bare.no_binding g) m o
+        item_numbers r v (all_at (λ (prod : Prod). AllByRecursion (λ (s : Place). s.binds ≡ []) (slots prod.items)) sig.prods p prod bare.plain.no_binding g) m o
 
     item_numbers : {vars own : List Variable} {words : List (List ℕ)} {items : List Item} {tokens : List Token} {xs : Parts} → ReadsItems sig metas vars own words items tokens xs → vars ≡ []
         → AllByRecursion (λ (s : Place). s.binds ≡ []) (slots items) → (m : ℕ) → OccursInParts m xs → NumberStands metas tokens m
     item_numbers all_read v n m o = absurd o
     item_numbers (terminal {t = t} {tokens = tokens} this r) v n m o = in_back (t ∷ []) tokens m (item_numbers r v n m o)
-    item_numbers (binder {w = w} {c = c} h r) v n m o = absurd (not_variable sig.cats c.0 w bare.no_variable h)
+    item_numbers (binder {w = w} {c = c} h r) v n m o = absurd (not_variable sig.cats c.0 w bare.variables h)
     item_numbers (slot {vars = vars} {own = own} {binds = binds} {first = first} {rest = rest} e some t r) v n m (inl o) =
         let under : slot_variables own binds ++ vars ≡ [] = ap (λ ns. slot_variables own ns ++ vars) n.0 ∙ v in
         subst (λ ts. NumberStands metas ts m) (sym e) (in_front first rest m (term_numbers t under m o))

@@ -6,9 +6,10 @@ use Rattle.scheme_terms.specs.SchemeScope.{AreDifferentNames}
 use Rattle.scheme_terms.specs.declared.scheme.MetaDecl.{MetaDecl}
 use Rattle.rule_schemes.specs.Reading.{Token}
 use Rattle.rule_schemes.specs.NewNames.{AreInOrder, StandsBefore}
-use Rattle.judgments.specs.Spellings.{IsSpellingOf, AreSpelledApart}
+use Rattle.judgments.specs.Spellings.{AreSpelledApart}
 use Rattle.judgments.specs.Collected.{IsAmong, StandsIn, IsCollected, AreCollected}
 use Rattle.judgments.proofs.WordsOfForms.{same_word}
+use Rattle.user_grammar.specs.Names.{IsCategoryWord}
 
 before_trans : (a b d : List ℕ) (ts : List Token) → StandsBefore a b ts → StandsBefore b d ts → StandsBefore a d ts
 before_trans a b d [] h k = h
@@ -76,7 +77,7 @@ same_names ts (x ∷ xs) (y ∷ ys) dx dy ox oy there back =
 module _ (sig : Signature) (apart : AreSpelledApart sig) (ts : List Token) where
   same_decl : (x y : MetaDecl) → IsCollected sig.cats ts x → IsCollected sig.cats ts y → x.name ≡ y.name → x ≡ y
   same_decl x y h k e =
-      let number : x.cat.0 ≡ y.cat.0 = apart x.cat.0 y.cat.0 y.name (subst (IsSpellingOf sig.cats x.cat.0) e h.cat) k.cat in
+      let number : x.cat.0 ≡ y.cat.0 = apart x.cat.0 y.cat.0 y.name (subst (IsCategoryWord sig.cats x.cat.0) e h.cat) k.cat in
       let params : x.params ≡ y.params = h.params ∙ sym k.params in
       λ i. record { name = e i; cat = record { 0 = number i }; params = params i }
 
@@ -93,9 +94,9 @@ module _ (sig : Signature) (apart : AreSpelledApart sig) (ts : List Token) where
       let rest : xs ≡ ys = same_decls xs ys h.1 k.1 names in
       cc
 
-  among_collected : (xs : List MetaDecl) (w : List ℕ) → AllByRecursion (IsCollected sig.cats ts) xs → IsAmong w xs → (c : ℕ) × StandsIn w ts × IsSpellingOf sig.cats c w
+  among_collected : (xs : List MetaDecl) (w : List ℕ) → AllByRecursion (IsCollected sig.cats ts) xs → IsAmong w xs → (c : ℕ) × StandsIn w ts × IsCategoryWord sig.cats c w
   among_collected [] w h a = absurd a
-  among_collected (x ∷ xs) w h (inl e) = (x.cat.0, subst (λ v. StandsIn v ts) e (h.0).written, subst (IsSpellingOf sig.cats x.cat.0) e (h.0).cat)
+  among_collected (x ∷ xs) w h (inl e) = (x.cat.0, subst (λ v. StandsIn v ts) e (h.0).written, subst (IsCategoryWord sig.cats x.cat.0) e (h.0).cat)
   among_collected (x ∷ xs) w h (inr a) = among_collected xs w h.1 a
 
   -- tokens have one list of metavariables

@@ -15,7 +15,6 @@ use Rattle.judgments.specs.Built.{IsBuiltTheorem, bare_text}
 use Rattle.judgments.specs.Collected.{StandsIn, IsAmong, IsCollected, AreCollected}
 use Rattle.judgments.specs.Laws.{AreBareNames}
 use Rattle.judgments.specs.Named.{IsWordOf, AreNamesOf}
-use Rattle.judgments.specs.Spellings.{IsSpellingOf}
 use Rattle.judgments.specs.Statements.{IsNamedFreely, AreNamedDifferently}
 use Rattle.judgments.specs.Written.{WrittenInput, for_derivation, for_term, input_tokens, term_words, IsInputOf, IsStatementOf, ReadsOnlyAs, names_over}
 use Rattle.judgments.proofs.BareForms.{word_is_name_of, no_brackets_read, names_from, form_in_scope}
@@ -28,6 +27,7 @@ use Rattle.judgments.proofs.RuleLemmas.{closed_names, bare_names, numbered, no_c
 use Rattle.judgments.proofs.StatementLemmas.{AreGiven, no_terms, joined_append, any_given, given_any, read_inputs, place_front, place_back, each_at, order_rest, order_tail}
 use Rattle.judgments.proofs.WordsOfForms.{joined, word_joined, joined_word}
 use Rattle.judgments.proofs.Zips.{zip_append, zip_right}
+use Rattle.user_grammar.specs.Names.{IsCategoryWord}
 
 among_place : (xs : List MetaDecl) (w : List ℕ) → IsAmong w xs → (m : ℕ) × (d : MetaDecl) × (slice_get xs m ≡ Some d) × (d.name ≡ w)
 among_place [] w a = absurd a
@@ -80,7 +80,7 @@ module _ (th : Theory) (bare : IsBareTheory th) (inputs : List WrittenInput) (ou
 
     -- a name that stands in forms that are read, at its place
     here : (forms : List (List Token)) (ys : List JudgmentScheme) → AllZip (Reads (first ++ further)) forms ys → (m : ℕ) (d : MetaDecl) → slice_get (first ++ further) m ≡ Some d
-        → IsWordOf forms d.name → IsSpellingOf th.sig.cats d.cat.0 d.name → AnyByRecursion (OccursInJudgment m) ys
+        → IsWordOf forms d.name → IsCategoryWord th.sig.cats d.cat.0 d.name → AnyByRecursion (OccursInJudgment m) ys
     here forms ys reads m d g w spelled =
         let n = word_is_name_of th.sig th.judgments bare.sig bare.judgments (closed_names (first ++ further)) plain forms ys d.name d.cat.0 reads w spelled in
         let same : n.0 ≡ m = one_place (first ++ further) n.0 m n.1 d c2.differ n.2 g n.3 in
@@ -188,6 +188,8 @@ module _ (th : Theory) (bare : IsBareTheory th) (inputs : List WrittenInput) (ou
     is_built free once = (
       record {
         root = tt;
+        targets = [];
+        target_words = tt;
         written = stands;
         free_names = free;
         different_names = once;

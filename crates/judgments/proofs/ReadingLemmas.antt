@@ -12,7 +12,8 @@ use Rattle.scheme_terms.specs.SchemeTree.{SchemeTree, meta, Values, no_values, P
 use Rattle.scheme_terms.specs.SchemeScope.{IsScheme, AreSchemeParts, AreSchemes, AreValues}
 use Rattle.scheme_terms.specs.declared.scheme.MetaDecl.{MetaDecl}
 use Rattle.rule_schemes.specs.Reading.{Token, word, punctuation, Variable, Means, IsSpelling, IsTerminal, slot_variables, ReadsTerm, group, metavariable, variable, production, ReadsBrackets, no_brackets, brackets, ReadsArguments, one_more, last_one, ReadsItems, all_read, terminal, binder, slot, ReadsForm, form_end, form_terminal, form_context, form_slot}
-use Rattle.judgments.specs.Bare.{IsBareItem, IsBareSignature}
+use Rattle.user_grammar.specs.Bare.{IsNotAmbiguous, IsBareSignature}
+use Rattle.user_grammar.specs.Names.{category_names}
 use Rattle.judgments.specs.Spellings.{IsNoSpelling}
 use Rattle.judgments.proofs.Collecting.{all_append, all_map}
 
@@ -69,14 +70,14 @@ module _ (sig : Signature) (metas : List MetaDecl) (names : Names) (bare : IsBar
         (as_name m decl g refl (inl refl), tt)
     term_tokens (variable {c = c} {w = w} {s = s} e h) v = absurd (subst (λ vs. Means 0 vs w c s) v h)
     term_tokens (production {p = p} {prod = prod} {xs = xs} g c r) v =
-        item_tokens r v (all_at (λ (prod : Prod). BindNothing prod.items) sig.prods p prod bare.no_binding g)
-        (all_at (λ (prod : Prod). AllByRecursion (IsBareItem sig.cats) prod.items) sig.prods p prod bare.terminals g)
+        item_tokens r v (all_at (λ (prod : Prod). BindNothing prod.items) sig.prods p prod bare.plain.no_binding g)
+        (all_at (λ (prod : Prod). AllByRecursion (IsNotAmbiguous (category_names sig.cats)) prod.items) sig.prods p prod bare.terminals g)
 
     item_tokens : {vars own : List Variable} {words : List (List ℕ)} {items : List Item} {tokens : List Token} {xs : Parts} → ReadsItems sig metas vars own words items tokens xs → vars ≡ []
-        → BindNothing items → AllByRecursion (IsBareItem sig.cats) items → Accounts (λ m. OccursInParts m xs) tokens
+        → BindNothing items → AllByRecursion (IsNotAmbiguous (category_names sig.cats)) items → Accounts (λ m. OccursInParts m xs) tokens
     item_tokens all_read v n b = tt
     item_tokens (terminal {text = text} this r) v n b = (as_terminal text this b.0, item_tokens r v n b.1)
-    item_tokens (binder {w = w} {c = c} h r) v n b = absurd (not_variable sig.cats c.0 w bare.no_variable h)
+    item_tokens (binder {w = w} {c = c} h r) v n b = absurd (not_variable sig.cats c.0 w bare.variables h)
     item_tokens (slot {vars = vars} {own = own} {binds = binds} {first = first} {rest = rest} {s = s} {xs = xs} e some t r) v n b =
         let under : slot_variables own binds ++ vars ≡ [] = ap (λ ns. slot_variables own ns ++ vars) n.0 ∙ v in
         let here = term_tokens t under in
@@ -87,7 +88,7 @@ module _ (sig : Signature) (metas : List MetaDecl) (names : Names) (bare : IsBar
         (all_map (IsAccounted sig.cats metas (λ m. OccursInParts m xs)) (IsAccounted sig.cats metas (λ m. OccursIn m s ⊎ OccursInParts m xs)) (weaker (λ m. OccursInParts m xs) (λ m. OccursIn m s ⊎ OccursInParts m xs) (λ m. inr)) rest there))
 
   pub form_tokens : {vars : List Variable} {ctx : Option CatId} {front : List Token} {items : List Item} {tokens : List Token} {ss : List SchemeTree} → ReadsForm sig metas vars ctx front items tokens ss
-      → vars ≡ [] → ctx ≡ None → AllByRecursion (IsBareItem sig.cats) items → Accounts (λ m. AnyByRecursion (OccursIn m) ss) tokens
+      → vars ≡ [] → ctx ≡ None → AllByRecursion (IsNotAmbiguous (category_names sig.cats)) items → Accounts (λ m. AnyByRecursion (OccursIn m) ss) tokens
   form_tokens form_end v c b = tt
   form_tokens (form_terminal {text = text} this r) v c b = (as_terminal text this b.0, form_tokens r v c b.1)
   form_tokens (form_context {id = id} e split r) v c b = (let never : Some id ≡ None = sym e ∙ c in cc)
@@ -110,13 +111,13 @@ module _ (sig : Signature) (metas : List MetaDecl) (names : Names) (bare : IsBar
     term_scheme (variable {c = c} {w = w} {s = s} e h) v = absurd (subst (λ vs. Means 0 vs w c s) v h)
     term_scheme (production {c = c} {p = p} {prod = prod} {xs = xs} g k r) v =
         subst (λ found. MatchOption found ⊥ (λ prod. (prod.cat.0 ≡ c) × AreSchemeParts sig names [] (binders prod.items) (slots prod.items) xs)) (sym g)
-        (k, item_schemes (binders prod.items) r v (all_at (λ (prod : Prod). BindNothing prod.items) sig.prods p prod bare.no_binding g))
+        (k, item_schemes (binders prod.items) r v (all_at (λ (prod : Prod). BindNothing prod.items) sig.prods p prod bare.plain.no_binding g))
 
     item_schemes : (bs : List ℕ) {vars own : List Variable} {words : List (List ℕ)} {items : List Item} {tokens : List Token} {xs : Parts} → ReadsItems sig metas vars own words items tokens xs
         → vars ≡ [] → BindNothing items → AreSchemeParts sig names [] bs (slots items) xs
     item_schemes bs all_read v n = tt
     item_schemes bs (terminal this r) v n = item_schemes bs r v n
-    item_schemes bs (binder {w = w} {c = c} h r) v n = absurd (not_variable sig.cats c.0 w bare.no_variable h)
+    item_schemes bs (binder {w = w} {c = c} h r) v n = absurd (not_variable sig.cats c.0 w bare.variables h)
     item_schemes bs (slot {vars = vars} {own = own} {c = c} {binds = binds} {s = s} e some t r) v n =
         let under : slot_variables own binds ++ vars ≡ [] = ap (λ ns. slot_variables own ns ++ vars) n.0 ∙ v in
         let here = term_scheme t under in

@@ -32,7 +32,7 @@ pub plain_scope : (th : Theory) (ts : List Token) (metas : List MetaDecl) (scope
 plain_scope th ts metas scope bare h e =
     subst (λ (s : ReadingScope). IsPlain th.sig th.judgments s want_judgment) (sym e)
     (record {
-      nothing_binds = record { variables = (bare.sig).no_variable; names = names_apart metas h.differ; parameters = bare_names th.sig.cats ts metas h.each };
+      nothing_binds = record { variables = (bare.sig).variables; names = names_apart metas h.differ; parameters = bare_names th.sig.cats ts metas h.each };
       judgments = all_map (IsBareJudgment th.sig.cats) (λ (j : Judgment). j.ctx ≡ None) (λ j b. b.no_context) th.judgments bare.judgments;
       knowns = refl;
       vars = refl;

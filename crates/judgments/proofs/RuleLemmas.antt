@@ -12,7 +12,8 @@ use Rattle.rule_schemes.specs.Reading.{Token, ReadingScope, ReadsJudgment, witho
 use Rattle.rule_schemes.specs.Rules.{JudgmentScheme, Rule, rule_root, root_of}
 use Rattle.rule_schemes.specs.Statement.{OccursInJudgment}
 use Rattle.rule_schemes.specs.declared.rule.Judgment.{Judgment}
-use Rattle.judgments.specs.Bare.{IsBareSignature, IsBareJudgment}
+use Rattle.user_grammar.specs.Bare.{IsBareSignature}
+use Rattle.judgments.specs.Bare.{IsBareJudgment}
 use Rattle.judgments.specs.Collected.{IsCollected, AreCollected}
 use Rattle.judgments.specs.Laws.{AreBareNames}
 use Rattle.judgments.specs.Named.{AreNamesOf}

@@ -5,7 +5,8 @@ use Rattle.std.proofs.lemmas.List.{take_at, drop_at, take_rest, take-append-drop
 use Rattle.binding_terms.specs.Signature.{Signature}
 use Rattle.binding_terms.specs.declared.grammar.Cat.{Cat}
 use Rattle.rule_schemes.specs.Reading.{IsEnding, IsSpelling}
-use Rattle.judgments.specs.Spellings.{IsSpellingOf, IsNoSpelling, AreSpelledApart, AreApart, NamesApart}
+use Rattle.judgments.specs.Spellings.{IsNoSpelling, AreSpelledApart, AreApart, NamesApart}
+use Rattle.user_grammar.specs.Names.{IsCategoryWord}
 
 -- a spelling is no shorter than the name
 pub spelling_long : (name w : List ℕ) → IsSpelling name w → length name ≤ length w
@@ -49,18 +50,18 @@ no_common a b w apart h k = which (fronts a b h.0 k.0 (sym h.1 ∙ k.1))
     which (inr m) = apart.1 (m.0, m.1, all_of_front m.0 h.0 (subst (AllByRecursion IsEnding) m.2 k.2))
 
 -- a word that is no spelling of any category is none of one of them
-pub none_spelled : (cats : List Cat) (c : ℕ) (w : List ℕ) → IsNoSpelling cats w → IsSpellingOf cats c w → ⊥
+pub none_spelled : (cats : List Cat) (c : ℕ) (w : List ℕ) → IsNoSpelling cats w → IsCategoryWord cats c w → ⊥
 none_spelled [] c w none h = h
 none_spelled (k ∷ cats) zero w none h = none.0 h
 none_spelled (k ∷ cats) (suc c) w none h = none_spelled cats c w none.1 h
 
 not_with_later : (name : List ℕ) (cats : List Cat) (d : ℕ) (w : List ℕ) → AllByRecursion (λ (other : Cat). AreApart name other.name) cats
-    → IsSpelling name w → IsSpellingOf cats d w → ⊥
+    → IsSpelling name w → IsCategoryWord cats d w → ⊥
 not_with_later name [] d w apart h k = k
 not_with_later name (cat ∷ cats) zero w apart h k = no_common name cat.name w apart.0 h k
 not_with_later name (cat ∷ cats) (suc d) w apart h k = not_with_later name cats d w apart.1 h k
 
-apart_numbers : (cats : List Cat) → NamesApart cats → (c d : ℕ) (w : List ℕ) → IsSpellingOf cats c w → IsSpellingOf cats d w → c ≡ d
+apart_numbers : (cats : List Cat) → NamesApart cats → (c d : ℕ) (w : List ℕ) → IsCategoryWord cats c w → IsCategoryWord cats d w → c ≡ d
 apart_numbers [] apart c d w h k = absurd h
 apart_numbers (cat ∷ cats) apart zero zero w h k = refl
 apart_numbers (cat ∷ cats) apart zero (suc d) w h k = absurd (not_with_later cat.name cats d w apart.0 h k)
@@ -71,12 +72,12 @@ itself : (name : List ℕ) → IsSpelling name name
 itself name = ([], sym (Rattle.std.proofs.Common.append-nil name), tt)
 
 -- where no word is a spelling of two, the names are apart
-names_from : (cats : List Cat) → ((c d : ℕ) (w : List ℕ) → IsSpellingOf cats c w → IsSpellingOf cats d w → c ≡ d) → NamesApart cats
+names_from : (cats : List Cat) → ((c d : ℕ) (w : List ℕ) → IsCategoryWord cats c w → IsCategoryWord cats d w → c ≡ d) → NamesApart cats
 names_from [] apart = tt
 names_from (cat ∷ cats) apart =
     (later cats (λ d w h k. (let never : zero ≡ suc d = apart zero (suc d) w h k in omega arith)), names_from cats (λ c d w h k. (let e = apart (suc c) (suc d) w h k in omega arith)))
   where
-    later : (others : List Cat) → ((d : ℕ) (w : List ℕ) → IsSpelling cat.name w → IsSpellingOf others d w → ⊥)
+    later : (others : List Cat) → ((d : ℕ) (w : List ℕ) → IsSpelling cat.name w → IsCategoryWord others d w → ⊥)
         → AllByRecursion (λ (other : Cat). AreApart cat.name other.name) others
     later [] never = tt
     later (other ∷ others) never = (

@@ -13,7 +13,6 @@ use Rattle.judgments.specs.Built.{IsBuiltTheorem}
 use Rattle.judgments.specs.Collected.{StandsIn, IsAmong, IsCollected, AreCollected}
 use Rattle.judgments.specs.Laws.{AreBareNames}
 use Rattle.judgments.specs.Named.{IsWordOf, AreNamesOf}
-use Rattle.judgments.specs.Spellings.{IsSpellingOf}
 use Rattle.judgments.specs.Texts.{TheoremText}
 use Rattle.judgments.specs.Written.{input_tokens, OccursInStatement, IsStatementOf, ReadsOnlyAs, names_over}
 use Rattle.judgments.proofs.BareForms.{word_is_name_of, collected_each, collected_from}
@@ -26,6 +25,7 @@ use Rattle.judgments.proofs.RuleLemmas.{closed_names, bare_names, none_unread, o
 use Rattle.judgments.proofs.StatementLemmas.{AreGiven, no_terms, joined_append, any_given, given_any, inputs_read, numbered_all, place_split, place_front, place_back, among_at, each_at, different_front, order_both}
 use Rattle.judgments.proofs.WordsOfForms.{joined, word_joined, joined_word}
 use Rattle.judgments.proofs.Zips.{zip_append, zip_unique}
+use Rattle.user_grammar.specs.Names.{IsCategoryWord}
 
 module _ (th : Theory) (bare : IsBareTheory th) (text : TheoremText) (st : Theorem) (h : IsBuiltTheorem th text st) where
   abbrev pub front : List (List Token)
@@ -34,7 +34,7 @@ module _ (th : Theory) (bare : IsBareTheory th) (text : TheoremText) (st : Theor
   abbrev pub forms : List (List Token)
   forms = front ++ text.outputs
 
-  abbrev pub w : IsStatementOf th.sig th.judgments st.scope.root text.name text.inputs text.outputs text.targets text.group st
+  abbrev pub w : IsStatementOf th.sig th.judgments st.scope.root text.name text.inputs text.outputs (h.0).targets text.group st
   w = (h.0).written
 
   pub all : AreGiven text.inputs
@@ -93,7 +93,7 @@ module _ (th : Theory) (bare : IsBareTheory th) (text : TheoremText) (st : Theor
       word_joined front d.name (subst (λ (e : MetaDecl). IsWordOf front e.name) same n.2)
 
   -- a spelling in the forms of the inputs is a name of the inputs
-  is_of_inputs : (v : List ℕ) (c : ℕ) → StandsIn v (joined front) → IsSpellingOf th.sig.cats c v → IsAmong v w.of_inputs
+  is_of_inputs : (v : List ℕ) (c : ℕ) → StandsIn v (joined front) → IsCategoryWord th.sig.cats c v → IsAmong v w.of_inputs
   is_of_inputs v c s spelled = which (place_split w.of_inputs w.further n.0 n.1 n.2)
     where
       n : Rattle.judgments.specs.Laws.IsNamedIn (closed_names (w.of_inputs ++ w.further)) v (λ m. AnyByRecursion (OccursInJudgment m) read.0)

@@ -15,14 +15,16 @@ use Rattle.rule_schemes.specs.Plain.{IsPlainSignature}
 use Rattle.rule_schemes.specs.Reading.{Token}
 use Rattle.rule_schemes.specs.Rules.{Rule, Theory, JudgmentFits, argument_slots, IsSystem}
 use Rattle.rule_schemes.specs.declared.rule.Judgment.{Judgment}
-use Rattle.judgments.specs.Bare.{IsBareSignature, IsBareJudgment, IsBareTheory}
+use Rattle.user_grammar.specs.Bare.{IsBareSignature}
+use Rattle.judgments.specs.Bare.{IsBareJudgment, IsBareTheory}
 use Rattle.judgments.specs.Built.{IsBuiltJudgment, HasRulesOf}
-use Rattle.judgments.specs.Spellings.{IsSpellingOf, AreSpelledApart}
+use Rattle.judgments.specs.Spellings.{AreSpelledApart}
 use Rattle.judgments.specs.Texts.{JudgmentText, RuleText, as_read, judgments_in, rule_in, rules_in, block_after}
 use Rattle.judgments.specs.Theory.{IsItemOf, IsJudgmentOf, IsBlockRule, IsTheoryOf, AreNamedApart, a_judgment, a_rule}
 use Rattle.judgments.proofs.RuleLemmas.{one_rule}
 use Rattle.judgments.proofs.Spelling.{none_spelled}
 use Rattle.judgments.proofs.Zips.{zip_append, zip_split, zip_unique, zip_right, zip_both, zip_map, map_append}
+use Rattle.user_grammar.specs.Names.{IsCategoryWord}
 
 -- forms are read as their tokens are lent
 pub form_read : (ts : List of_token.Token) → map taken (map token_view ts) ≡ map kind_and_text ts
@@ -132,7 +134,7 @@ module _ {X : Type 0} (f : X → PlainPortion) (xs : List X) (i : ℕ) (d : X) (
 
 -- a judgment of a bare theory fits its signature
 module _ (sig : Signature) (bare : IsBareSignature sig) (portions : List PlainPortion) where
-  plain_cat : (cats : List Cat) (c : ℕ) (w : List ℕ) → AllByRecursion (λ (cat : Cat). cat.context ≡ false) cats → IsSpellingOf cats c w → MatchOption (slice_get cats c) ⊥ (λ cat. cat.context ≡ false)
+  plain_cat : (cats : List Cat) (c : ℕ) (w : List ℕ) → AllByRecursion (λ (cat : Cat). cat.context ≡ false) cats → IsCategoryWord cats c w → MatchOption (slice_get cats c) ⊥ (λ cat. cat.context ≡ false)
   plain_cat [] c w none h = h
   plain_cat (k ∷ cats) zero w none h = none.0
   plain_cat (k ∷ cats) (suc c) w none h = plain_cat cats c w none.1 h
@@ -158,7 +160,7 @@ module _ (sig : Signature) (bare : IsBareSignature sig) (portions : List PlainPo
   plain_slots [] (i ∷ items) h = absurd h
   plain_slots (t ∷ form) [] h = tt
   plain_slots (t ∷ form) (Word text quoted ∷ items) h = plain_slots form items h.1
-  plain_slots (t ∷ form) (Slot c binds ∷ items) h = (plain_cat sig.cats c.0 t.text bare.no_context (h.0).1, plain_slots form items h.1)
+  plain_slots (t ∷ form) (Slot c binds ∷ items) h = (plain_cat sig.cats c.0 t.text bare.plain.no_context (h.0).1, plain_slots form items h.1)
   plain_slots (t ∷ form) (Binder c ∷ items) h = absurd h.0
 
   pub judgment_fits : (text : JudgmentText) (j : Judgment) → IsBuiltJudgment sig portions text j → JudgmentFits sig j
@@ -170,7 +172,7 @@ module _ (sig : Signature) (bare : IsBareSignature sig) (portions : List PlainPo
   }
 
   pub plain_signature : IsPlainSignature sig
-  plain_signature = record { no_context = bare.no_context; no_binding = bare.no_binding }
+  plain_signature = bare.plain
 
 -- a token stands for one item at most
 module _ (sig : Signature) (apart : AreSpelledApart sig) (portions : List PlainPortion) where

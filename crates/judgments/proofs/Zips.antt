@@ -1,7 +1,7 @@
 -- Lists whose elements belong together one by one, as they are built.
-use Rattle.std.proofs.Common.{◌≡◌, ℕ, zero, suc, ◌+◌, ◌<◌, List, [], ◌∷◌, ◌++◌, length, take, map, get_or, refl, ap, ◌∙◌, sym, subst, arith}
+use Rattle.std.proofs.Common.{◌≡◌, ℕ, zero, suc, ◌+◌, ◌<◌, ◌↔◌, List, [], ◌∷◌, ◌++◌, length, take, drop, map, get_or, refl, ap, ◌∙◌, sym, subst, arith}
 use Rattle.std.specs.List.{AllZip, AllByRecursion}
-use Rattle.std.proofs.lemmas.List.{take_more}
+use Rattle.std.proofs.lemmas.List.{take_more, drop_more}
 
 pub zip_append : {A B : Type 0} (R : A → B → Type 0) (xs us : List A) (ys vs : List B) → AllZip R xs ys → AllZip R us vs → AllZip R (xs ++ us) (ys ++ vs)
 zip_append R [] us [] vs h k = k
@@ -84,3 +84,9 @@ pub all_pick : {X A : Type 0} (f : X → A) (P : A → Type 0) (xs : List X) (i 
 all_pick f P [] i d lt h = absurd (let no : ⊥ = omega arith in no)
 all_pick f P (x ∷ xs) zero d lt h = h.0
 all_pick f P (x ∷ xs) (suc i) d lt h = all_pick f P xs i d (omega arith) h.1
+
+-- one element more of a list that is gone through
+pub all_step : {X A : Type 0} (f : X → A) (P : A → Type 0) (xs : List X) (i : ℕ) (d : X) → i < length xs
+    → AllByRecursion P (map f (drop i xs)) ↔ (P (f (get_or xs i d)) × AllByRecursion P (map f (drop (i + 1) xs)))
+all_step {X} f P xs i d lt =
+    subst (λ (l : List X). AllByRecursion P (map f l) ↔ (P (f (get_or xs i d)) × AllByRecursion P (map f (drop (i + 1) xs)))) (sym (drop_more xs i d lt)) (λ h. h, λ h. h)

@@ -1,33 +1,19 @@
 -- What is built so far: theories without variables and contexts, and statements on derivations alone.
-use Rattle.std.specs.Prelude.{◌≡◌, false, List, [], None}
+use Rattle.std.specs.Prelude.{◌≡◌, List, [], None}
 use Rattle.std.specs.List.{AllByRecursion}
-use Rattle.binding_terms.specs.Signature.{Signature, slots}
 use Rattle.binding_terms.specs.declared.grammar.Cat.{Cat}
-use Rattle.binding_terms.specs.declared.grammar.Item.{Item}
-use Rattle.binding_terms.specs.declared.grammar.Item.TheVariants.{Word, Slot, Binder}
 use Rattle.scheme_terms.specs.declared.scheme.Root.TheVariants.{Closed}
 use Rattle.rule_schemes.specs.Rules.{Theory}
 use Rattle.rule_schemes.specs.Statement.{StatementInput, given, syntax_input, Theorem}
 use Rattle.rule_schemes.specs.declared.rule.Judgment.{Judgment}
-use Rattle.judgments.specs.Spellings.{IsNoSpelling, AreSpelledApart}
-
--- the item, where it is a terminal, is not spelled as a category
-abbrev pub IsBareItem : List Cat → Item → Type 0
-IsBareItem cats (Word text quoted) = IsNoSpelling cats text
-IsBareItem cats (Slot c binds) = Unit {0}
-IsBareItem cats (Binder c) = Unit {0}
-
--- no category has a variable or is one of contexts, no slot binds, and no terminal of a production is spelled as a category
-pub record IsBareSignature (sig : Signature) : Type 0 where
-  pub no_variable : AllByRecursion (λ cat. cat.var ≡ None) sig.cats
-  pub no_context : AllByRecursion (λ cat. cat.context ≡ false) sig.cats
-  pub no_binding : AllByRecursion (λ prod. AllByRecursion (λ slot. slot.binds ≡ []) (slots prod.items)) sig.prods
-  pub terminals : AllByRecursion (λ prod. AllByRecursion (IsBareItem sig.cats) prod.items) sig.prods
+use Rattle.user_grammar.specs.Bare.{IsNotAmbiguous, IsBareSignature}
+use Rattle.user_grammar.specs.Names.{category_names}
+use Rattle.judgments.specs.Spellings.{AreSpelledApart}
 
 -- the judgment assumes no context, and no terminal of it is spelled as a category
 pub record IsBareJudgment (cats : List Cat) (j : Judgment) : Type 0 where
   pub no_context : j.ctx ≡ None
-  pub terminals : AllByRecursion (IsBareItem cats) j.items
+  pub terminals : AllByRecursion (IsNotAmbiguous (category_names cats)) j.items
 
 -- A theory without variables and contexts, whose terminals are not spelled as categories. That no word is a spelling of two categories
 -- holds of each signature for which a file stands.

@@ -10,7 +10,9 @@ use Rattle.rule_schemes.specs.Plain.{HasPlainNames}
 use Rattle.rule_schemes.specs.Refused.{AllStrict}
 use Rattle.rule_schemes.specs.Rules.{Rule, Theory, HasForms, HasGoodConclusion}
 use Rattle.rule_schemes.specs.declared.rule.Judgment.{Judgment}
-use Rattle.judgments.specs.Bare.{IsBareItem, IsBareJudgment, IsBareStatement}
+use Rattle.user_grammar.specs.Bare.{IsNotAmbiguous}
+use Rattle.user_grammar.specs.Names.{category_names}
+use Rattle.judgments.specs.Bare.{IsBareJudgment, IsBareStatement}
 use Rattle.rule_schemes.specs.Reading.{Token}
 use Rattle.rule_schemes.specs.Statement.{Theorem}
 use Rattle.judgments.specs.Statements.{IsTheoremOf}
@@ -19,7 +21,7 @@ use Rattle.judgments.specs.Texts.{JudgmentText, RuleText, TheoremText}
 use Rattle.judgments.specs.Theory.{IsItemOf, IsJudgmentOf, IsBlockRule}
 
 abbrev pub IsBuiltItem : Signature → List PlainPortion → PlainToken → Item → Type 0
-IsBuiltItem sig portions token item = IsItemOf sig portions token item × IsBareItem sig.cats item
+IsBuiltItem sig portions token item = IsItemOf sig portions token item × IsNotAmbiguous (category_names sig.cats) item
 
 abbrev pub IsBuiltJudgment : Signature → List PlainPortion → JudgmentText → Judgment → Type 0
 IsBuiltJudgment sig portions text j = IsJudgmentOf sig portions text j × IsBareJudgment sig.cats j

@@ -8,7 +8,8 @@ use Rattle.scheme_terms.specs.SchemeScope.{AreDifferentNames}
 use Rattle.scheme_terms.specs.declared.scheme.MetaDecl.{MetaDecl}
 use Rattle.rule_schemes.specs.Reading.{Token, word}
 use Rattle.rule_schemes.specs.NewNames.{AreInOrder}
-use Rattle.judgments.specs.Spellings.{IsSpellingOf, IsNoSpelling}
+use Rattle.judgments.specs.Spellings.{IsNoSpelling}
+use Rattle.user_grammar.specs.Names.{IsCategoryWord}
 
 abbrev pub IsAmong : List ℕ → List MetaDecl → Type 0
 IsAmong w metas = AnyByRecursion (λ decl. decl.name ≡ w) metas
@@ -19,12 +20,12 @@ StandsIn w tokens = AnyByRecursion (λ t. t ≡ word w) tokens
 -- a metavariable without parameters: a word of the tokens that is a spelling of its category
 pub record IsCollected (cats : List Cat) (tokens : List Token) (decl : MetaDecl) : Type 0 where
   pub written : StandsIn decl.name tokens
-  pub cat : IsSpellingOf cats decl.cat.0 decl.name
+  pub cat : IsCategoryWord cats decl.cat.0 decl.name
   pub params : decl.params ≡ []
 
 pub record AreCollected (cats : List Cat) (tokens : List Token) (metas : List MetaDecl) : Type 0 where
   pub each : AllByRecursion (IsCollected cats tokens) metas
-  pub all : (w : List ℕ) (c : ℕ) → StandsIn w tokens → IsSpellingOf cats c w → IsAmong w metas
+  pub all : (w : List ℕ) (c : ℕ) → StandsIn w tokens → IsCategoryWord cats c w → IsAmong w metas
   pub differ : AreDifferentNames (map (λ decl. decl.name) metas)
   pub in_order : AreInOrder tokens metas
 
@@ -38,7 +39,7 @@ pub record IsAdded (cats : List Cat) (before : List MetaDecl) (t : Token) (after
   pub decl : MetaDecl
   pub at_end : after ≡ before ++ decl ∷ []
   pub written : t ≡ word decl.name
-  pub cat : IsSpellingOf cats decl.cat.0 decl.name
+  pub cat : IsCategoryWord cats decl.cat.0 decl.name
   pub params : decl.params ≡ []
   pub new : IsAmong decl.name before → ⊥
 

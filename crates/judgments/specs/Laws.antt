@@ -8,8 +8,12 @@ use Rattle.rule_schemes.specs.Reading.{Token, word}
 use Rattle.rule_schemes.specs.Rules.{JudgmentScheme, Theory, IsJudgmentScheme}
 use Rattle.rule_schemes.specs.Statement.{OccursInJudgment}
 use Rattle.judgments.specs.Bare.{IsBareTheory}
-use Rattle.judgments.specs.Spellings.{IsSpellingOf}
+use Rattle.binding_terms.specs.Signature.{Signature}
+use Rattle.outline_reader.specs.Plain.{PlainPortion}
+use Rattle.user_grammar.specs.Grammar.{IsSignatureOf}
+use Rattle.judgments.specs.Spellings.{AreSpelledApart}
 use Rattle.judgments.specs.Written.{ReadsOnlyAs}
+use Rattle.user_grammar.specs.Names.{IsCategoryWord}
 
 -- names without known variables and parameters
 pub record AreBareNames (names : Names) : Type 0 where
@@ -29,4 +33,8 @@ IsNamedIn names w Occurs = (m : ℕ) × (decl : MetaDecl) × (slice_get names.me
 abbrev pub SpellingsAreNames : Type 0
 SpellingsAreNames =
     (th : Theory) (names : Names) (form : List Token) (j : JudgmentScheme) (w : List ℕ) (c : ℕ) → IsBareTheory th → AreBareNames names → ReadsOnlyAs th.sig th.judgments names form j
-    → AnyByRecursion (λ t. t ≡ word w) form → IsSpellingOf th.sig.cats c w → IsNamedIn names w (λ m. OccursInJudgment m j)
+    → AnyByRecursion (λ t. t ≡ word w) form → IsCategoryWord th.sig.cats c w → IsNamedIn names w (λ m. OccursInJudgment m j)
+
+-- over the signature of a file no word is a spelling of two categories
+abbrev pub SignaturesSpellApart : Type 0
+SignaturesSpellApart = (portions : List PlainPortion) (sig : Signature) → IsSignatureOf portions sig → AreSpelledApart sig

@@ -1,21 +1,19 @@
 -- Spellings of categories. To be held against docs/notation.md, 'Grammar'.
-use Rattle.std.specs.Prelude.{◌≡◌, ℕ, List, [], ◌∷◌, slice_get, MatchOption}
+use Rattle.std.specs.Prelude.{◌≡◌, ℕ, List, [], ◌∷◌}
 use Rattle.std.specs.List.{AllByRecursion}
 use Rattle.binding_terms.specs.Signature.{Signature}
 use Rattle.binding_terms.specs.declared.grammar.Cat.{Cat}
 use Rattle.rule_schemes.specs.Reading.{IsSpelling}
-
--- the word is a spelling of the category with this number
-abbrev pub IsSpellingOf : List Cat → (cat : ℕ) → List ℕ → Type 0
-IsSpellingOf cats c w = MatchOption (slice_get cats c) ⊥ (λ cat. IsSpelling cat.name w)
+use Rattle.user_grammar.specs.Names as names
+use Rattle.user_grammar.specs.Names.{category_names, IsCategoryWord}
 
 -- the word is a spelling of none of the categories
 abbrev pub IsNoSpelling : List Cat → List ℕ → Type 0
-IsNoSpelling cats w = AllByRecursion (λ cat. IsSpelling cat.name w → ⊥) cats
+IsNoSpelling cats w = names.IsNoSpelling (category_names cats) w
 
 -- no word is a spelling of two categories
 abbrev pub AreSpelledApart : Signature → Type 0
-AreSpelledApart sig = (c d : ℕ) (w : List ℕ) → IsSpellingOf sig.cats c w → IsSpellingOf sig.cats d w → c ≡ d
+AreSpelledApart sig = (c d : ℕ) (w : List ℕ) → IsCategoryWord sig.cats c w → IsCategoryWord sig.cats d w → c ≡ d
 
 -- neither name is a spelling of the other
 abbrev pub AreApart : (one other : List ℕ) → Type 0

@@ -1,8 +1,7 @@
 -- What the portions of a file declare: judgments, rules and theorems, in the order of the text. To be held against docs/notation.md, 'Outline'.
-use Rattle.std.specs.Prelude.{◌≡◌, ℕ, suc, ◌-◌, Bool, List, [], ◌∷◌, ◌++◌, map, Option, if◌then◌else◌}
-use Rattle.binding_terms.specs.Numbered.{AnyByRecursion}
+use Rattle.std.specs.Prelude.{ℕ, suc, ◌-◌, Bool, List, [], ◌∷◌, ◌++◌, map, Option, if◌then◌else◌}
 use Rattle.sy_base.specs.Tokens.{PlainToken}
-use Rattle.outline_reader.specs.Plain.{PlainPortion, terminals, judgment_of, rule_of, theorem_of, PlainInput, given_form, of_syntax, taken}
+use Rattle.outline_reader.specs.Plain.{PlainPortion, judgment_of, rule_of, theorem_of, step_of, PlainInput, given_form, of_syntax, PlainArgument, name_alone, PlainJustification, by_induction, taken}
 use Rattle.rule_schemes.specs.Reading.{Token}
 use Rattle.judgments.specs.Written.{WrittenInput, for_derivation, for_term}
 
@@ -30,16 +29,7 @@ pub record TheoremText : Type 0 where
   pub assumes : Option PlainToken
   pub inputs : List WrittenInput
   pub outputs : List (List Token)
-  pub targets : List (List ℕ)
-
--- the terminals part lists the text
-abbrev pub ListsText : List ℕ → PlainPortion → Type 0
-ListsText text (terminals first items) = AnyByRecursion (λ item. text ≡ item.text) items
-ListsText text _ = ⊥
-
--- some terminals part lists the text
-abbrev pub IsListed : List PlainPortion → List ℕ → Type 0
-IsListed portions text = AnyByRecursion (ListsText text) portions
+  pub targets : List PlainArgument
 
 abbrev pub judgment_in : PlainPortion → List JudgmentText
 judgment_in (judgment_of first name form assumes) = record { name = name.text; form = form; assumes = assumes } ∷ []
@@ -77,17 +67,32 @@ written_input (of_syntax name) = for_term name.text
 abbrev pub group_of : (groups : ℕ) → (joined : Bool) → ℕ
 group_of n joined = if joined then n - 1 else n
 
-abbrev pub theorem_in : (groups : ℕ) → PlainPortion → List TheoremText
-theorem_in n (theorem_of first joined kind name assumes inputs outputs targets) =
+-- the target that a step by induction names
+abbrev pub target_of : PlainJustification → List PlainArgument
+target_of (by_induction subject) = subject ∷ []
+target_of _ = []
+
+abbrev pub target_in : PlainPortion → List PlainArgument
+target_in (step_of first names forms why) = target_of why
+target_in _ = []
+
+-- the target of a proof whose first step is by induction
+abbrev pub first_target : List PlainPortion → List PlainArgument
+first_target [] = []
+first_target (p ∷ ps) = target_in p
+
+-- the theorem that a portion states, before these portions; its targets are those of the line `use`, or of the first step
+abbrev pub theorem_in : (groups : ℕ) → PlainPortion → (rest : List PlainPortion) → List TheoremText
+theorem_in n (theorem_of first joined kind name assumes inputs outputs targets) rest =
     record {
       group = group_of n joined;
       name = name.text;
       assumes = assumes;
       inputs = map written_input inputs;
       outputs = map as_read outputs;
-      targets = map (λ target. target.text) targets;
+      targets = map name_alone targets ++ first_target rest;
     } ∷ []
-theorem_in n _ = []
+theorem_in n _ rest = []
 
 abbrev pub groups_after : ℕ → PlainPortion → ℕ
 groups_after n (theorem_of first joined kind name assumes inputs outputs targets) = suc (group_of n joined)
@@ -96,4 +101,4 @@ groups_after n _ = n
 -- the theorems of the portions, where so many groups stand before these
 abbrev pub theorems_in : (groups : ℕ) → List PlainPortion → List TheoremText
 theorems_in n [] = []
-theorems_in n (p ∷ ps) = theorem_in n p ++ theorems_in (groups_after n p) ps
+theorems_in n (p ∷ ps) = theorem_in n p ps ++ theorems_in (groups_after n p) ps

@@ -10,21 +10,23 @@ use Rattle.outline_reader.specs.Plain.{PlainPortion, judgment_of, rule_of, theor
 use Rattle.rule_schemes.specs.Reading.{IsNameOf, MayBeTerminal}
 use Rattle.rule_schemes.specs.Rules.{Rule, Theory, IsSystem, rule_root}
 use Rattle.rule_schemes.specs.declared.rule.Judgment.{Judgment}
-use Rattle.judgments.specs.Spellings.{IsSpellingOf, IsNoSpelling}
-use Rattle.judgments.specs.Texts.{JudgmentText, RuleText, IsListed, judgments_in, rules_in, rule_forms}
+use Rattle.user_grammar.specs.File.{listed}
+use Rattle.user_grammar.specs.Names.{IsAmong, IsCategoryWord}
+use Rattle.judgments.specs.Spellings.{IsNoSpelling}
+use Rattle.judgments.specs.Texts.{JudgmentText, RuleText, judgments_in, rules_in, rule_forms}
 use Rattle.judgments.specs.Written.{TOKENS, IsRuleOf}
 
 -- A terminal in the form of a judgment: a listed word or a numeral that is no spelling of a category, a symbol, punctuation other than
 -- parentheses and brackets, or a quoted token other than a parenthesis.
 pub record IsTerminalToken (sig : Signature) (portions : List PlainPortion) (token : PlainToken) : Type 0 where
   pub kind : MayBeTerminal token.kind token.text
-  pub word : token.kind ≡ 0 → IsNoSpelling sig.cats token.text × (IsListed portions token.text ⊎ IsTrue (is_numeral token.text))
+  pub word : token.kind ≡ 0 → IsNoSpelling sig.cats token.text × (IsAmong (listed portions) token.text ⊎ IsTrue (is_numeral token.text))
   pub quoted : token.kind ≡ 4 → (token.text ≢ 40 ∷ []) × (token.text ≢ 41 ∷ [])
 
 -- The item for which a token of a judgment's form stands: a spelling of a category is a slot without brackets, a terminal keeps its quotes.
 abbrev pub IsItemOf : Signature → List PlainPortion → PlainToken → Item → Type 0
 IsItemOf sig portions token (Word text quoted) = (text ≡ token.text) × (quoted ≡ (token.kind == 4)) × IsTerminalToken sig portions token
-IsItemOf sig portions token (Slot c binds) = (token.kind ≡ 0) × IsSpellingOf sig.cats c.0 token.text × (binds ≡ [])
+IsItemOf sig portions token (Slot c binds) = (token.kind ≡ 0) × IsCategoryWord sig.cats c.0 token.text × (binds ≡ [])
 IsItemOf sig portions token (Binder c) = ⊥
 
 -- the category of contexts that is assumed: the one with exactly this name

@@ -1,7 +1,7 @@
 // The inputs of a theorem that are derivations, and their names.
 ghost use Rattle.std.specs.Prelude.{◌≡◌, ◌↔◌, ◌⊎◌, ◌∷◌, [], IsTrue, IfOk, MatchOption, map};
 ghost use Rattle.std.specs.List.{AllByRecursion};
-ghost use Rattle.judgments.specs.Bare.{IsBareSignature};
+ghost use Rattle.user_grammar.specs.Bare.{IsBareSignature};
 ghost use Rattle.judgments.specs.Spellings.{IsNoSpelling};
 ghost use Rattle.judgments.specs.Statements.{IsNameless, IsNamedFreely, IsNamedOtherwise, AreNamedDifferently};
 ghost use Rattle.judgments.specs.Views.{input_text, given_text, IsForDerivation};
@@ -62,8 +62,7 @@ fn is_named_freely(sig: &Sig, input: &NamedForm<'_>) -> bool
     requires { IsBareSignature sig.now }
     ensures { IsTrue result ↔ IsNamedFreely sig.now (given_text input.now) }
 {
-    let name = input.name.text.as_bytes();
-    is_nameless(name) || is_no_spelling(sig.cats().as_slice(), name)
+    is_no_spelling(sig.cats().as_slice(), input.name.text.as_bytes())
 }
 
 /// Whether the names of all inputs may be given.

@@ -8,7 +8,8 @@ ghost use Rattle.binding_terms.specs.declared.grammar.Item.TheVariants.{Slot};
 ghost use Rattle.outline_reader.specs.Views.{portion_view};
 ghost use Rattle.outline_reader.specs.Plain.{plain_portion, outlined};
 ghost use Rattle.judgments.specs.Spellings.{IsNoSpelling};
-ghost use Rattle.judgments.specs.Texts.{ListsText, IsListed};
+ghost use Rattle.user_grammar.specs.File.{listed_in, listed};
+ghost use Rattle.user_grammar.specs.Names.{IsAmong};
 ghost use Rattle.judgments.specs.Theory.{IsTerminalToken, IsItemOf};
 ghost use Rattle.judgments.specs.Built.{IsBuiltItem};
 
@@ -20,10 +21,10 @@ use sqlite_items::Items;
 use std::alloc::Global;
 
 fn has_text(items: &[Token<'_>], text: &[u8]) -> bool
-    ensures { IsTrue result ↔ AnyByRecursion (λ item. text.now ≡ item.text) (map token_view items.now) }
+    ensures { IsTrue result ↔ IsAmong (map (λ item. item.text) (map token_view items.now)) text.now }
 {
     for item in items {
-        if same_bytes(text, item.text.as_bytes()) {
+        if same_bytes(item.text.as_bytes(), text) {
             return true;
         }
     }
@@ -32,7 +33,7 @@ fn has_text(items: &[Token<'_>], text: &[u8]) -> bool
 
 /// Whether the portion lists the text as a terminal.
 fn lists_text(portion: &Portion<'_>, text: &[u8]) -> bool
-    ensures { IsTrue result ↔ ListsText text.now (plain_portion (portion_view portion.now)) }
+    ensures { IsTrue result ↔ IsAmong (listed_in (plain_portion (portion_view portion.now))) text.now }
 {
     match portion {
         Portion::Terminals { items, .. } => has_text(items, text),
@@ -42,7 +43,7 @@ fn lists_text(portion: &Portion<'_>, text: &[u8]) -> bool
 
 /// Whether a terminals part lists the text.
 fn is_listed(outline: &Outline<'_>, text: &[u8]) -> bool
-    ensures { IsTrue result ↔ IsListed (outlined outline.now) text.now }
+    ensures { IsTrue result ↔ IsAmong (listed (outlined outline.now)) text.now }
 {
     for portion in outline.parts.as_slice() {
         if lists_text(portion, text) {

@@ -13,6 +13,6 @@ mod statements;
 mod system;
 mod words;
 
-pub use laws::{readings_are_in_scope, spellings_are_names};
+pub use laws::{readings_are_in_scope, signatures_spell_apart, spellings_are_names};
 pub use statements::statements_of;
 pub use system::system_of;

@@ -2,8 +2,8 @@
 ghost use Rattle.std.specs.Prelude.{◌≡◌, ◌↔◌, ◌++◌, IsTrue, IfOk, OnOk, List, map, flat_map};
 ghost use Rattle.proof_lexer.specs.View.{kind_and_text};
 ghost use Rattle.rule_schemes.specs.Reading.{Token, word};
-ghost use Rattle.judgments.specs.Spellings.{IsSpellingOf};
 ghost use Rattle.judgments.specs.Collected.{IsAmong, AreCollected, AreCollectedFrom, AreNext, IsLonger};
+ghost use Rattle.user_grammar.specs.Names.{IsCategoryWord};
 
 use crate::items::is_word;
 use crate::words::{same_bytes, spelled, text_of};
@@ -34,7 +34,7 @@ fn add_name(
     name: &[u8],
     cats: &[Cat],
 ) -> Result<(), NoMemory>
-    requires { IsSpellingOf cats.now cat.0 name.now }
+    requires { IsCategoryWord cats.now cat.0 name.now }
     ensures { OnOk result (AreNext cats.now metas.old (word name.now) metas.new) }
 {
     if is_among(name, metas.as_slice()) {

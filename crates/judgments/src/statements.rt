@@ -12,11 +12,12 @@ ghost use Rattle.rule_schemes.specs.View.{theory, judgment_scheme, statement_inp
 ghost use Rattle.scheme_terms.specs.declared.scheme.MetaDecl.{MetaDecl};
 ghost use Rattle.notation_parser.specs.Plain.{IsPlain};
 ghost use Rattle.notation_parser.specs.View.{reading_scope};
-ghost use Rattle.judgments.specs.Bare.{IsBareSignature, IsBareTheory, IsBareStatement};
+ghost use Rattle.user_grammar.specs.Bare.{IsBareSignature};
+ghost use Rattle.judgments.specs.Bare.{IsBareTheory, IsBareStatement};
 ghost use Rattle.judgments.specs.Built.{IsBuiltTheorem, bare_text};
 ghost use Rattle.judgments.specs.Collected.{AreCollected};
 ghost use Rattle.judgments.specs.Statements.{AreStatementsOf, IsNamedFreely, AreNamedDifferently};
-ghost use Rattle.judgments.specs.Texts.{theorem_in, theorems_in, group_of, groups_after};
+ghost use Rattle.judgments.specs.Texts.{target_in, first_target, theorem_in, theorems_in, group_of, groups_after};
 ghost use Rattle.judgments.specs.Views.{given_text, input_text};
 ghost use Rattle.judgments.specs.Written.{ReadsOnlyAs};
 
@@ -26,7 +27,7 @@ use crate::naming::{Declares, named_apart};
 use crate::readings::{read_form, read_forms, scope_of};
 use crate::words::{number, text_of};
 use binding_terms::{NoMemory, Sig};
-use outline_reader::{Form, InputText, Name, NamedForm, Outline, Portion};
+use outline_reader::{Form, InputText, Just, Name, NamedForm, Outline, Portion};
 use rule_schemes::{Input, JScheme, ReadScope, Statement, System};
 use scheme_terms::{MetaDecl, Scope};
 use sqlite_items::Items;
@@ -234,17 +235,43 @@ fn alone(alloc: Global, statement: Statement) -> Result<Vec<Statement>, NoMemory
     Ok(all)
 }
 
+/// Whether the portion is no step by induction, which makes its subject a target.
+fn names_no_target(portion: &Portion<'_>) -> bool
+    ensures { IsTrue result ↔ (target_in (plain_portion (portion_view portion.now)) ≡ []) }
+{
+    match portion {
+        Portion::Step { just, .. } => match just {
+            Just::Induction(_) => false,
+            _ => true,
+        },
+        _ => true,
+    }
+}
+
+/// Whether the proof at the front of the portions does not begin with a step by induction.
+fn begins_without_target(rest: &[Portion<'_>]) -> bool
+    ensures { IsTrue result ↔ (first_target (map (λ portion. plain_portion (portion_view portion)) rest.now) ≡ []) }
+{
+    if rest.len() == 0 {
+        return true;
+    }
+    names_no_target(&rest[0])
+}
+
 /// The statement of the portion, alone, or none where it is no theorem. A theorem with a root or targets is not built yet.
 fn stated(
     alloc: Global,
     sys: &System,
     groups: usize,
     portion: &Portion<'_>,
+    rest: &[Portion<'_>],
 ) -> Result<Option<Vec<Statement>>, NoMemory>
     requires { IsBareTheory (theory sys.now) }
     ensures { IfOk result (λ found. MatchOption found
-        ((sts : List Theorem) → AllZip (IsBuiltTheorem (theory sys.now)) (theorem_in groups (plain_portion (portion_view portion.now))) sts → ⊥)
-        (λ sts. AllZip (IsBuiltTheorem (theory sys.now)) (theorem_in groups (plain_portion (portion_view portion.now))) (map plain_statement sts.items))) }
+        ((sts : List Theorem) → AllZip (IsBuiltTheorem (theory sys.now)) (theorem_in groups (plain_portion (portion_view portion.now))
+        (map (λ portion. plain_portion (portion_view portion)) rest.now)) sts → ⊥)
+        (λ sts. AllZip (IsBuiltTheorem (theory sys.now)) (theorem_in groups (plain_portion (portion_view portion.now))
+        (map (λ portion. plain_portion (portion_view portion)) rest.now)) (map plain_statement sts.items))) }
 {
     match portion {
         Portion::Theorem {
@@ -260,6 +287,9 @@ fn stated(
                 return Ok(None);
             }
             if targets.len() != 0 {
+                return Ok(None);
+            }
+            if !begins_without_target(rest) {
                 return Ok(None);
             }
             let group = group_of(groups, *joined);
@@ -299,8 +329,10 @@ fn all_stated(
 {
     let mut all = Vec::new(alloc);
     let mut groups = 0;
-    for portion in outline.parts.as_slice() {
-        match stated(alloc, sys, groups, portion)? {
+    let portions = outline.parts.as_slice();
+    for i in 0..portions.len() {
+        let portion = &portions[i];
+        match stated(alloc, sys, groups, portion, &portions[i + 1..])? {
             Some(more) => join(&mut all, more)?,
             None => return Ok(None),
         }

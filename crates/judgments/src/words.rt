@@ -2,7 +2,8 @@
 ghost use Rattle.std.specs.Prelude.{◌≡◌, ◌↔◌, IsTrue, IfOk, MatchOption};
 ghost use Rattle.std.specs.List.{AllByRecursion};
 ghost use Rattle.rule_schemes.specs.Reading.{IsEnding, IsSpelling};
-ghost use Rattle.judgments.specs.Spellings.{IsSpellingOf, IsNoSpelling, AreSpelledApart, AreApart, NamesApart};
+ghost use Rattle.judgments.specs.Spellings.{IsNoSpelling, AreSpelledApart, AreApart, NamesApart};
+ghost use Rattle.user_grammar.specs.Names.{IsCategoryWord};
 
 use binding_terms::{Cat, CatId, NoMemory, Sig, Text};
 use std::alloc::Global;
@@ -66,7 +67,7 @@ pub fn is_spelling(name: &[u8], word: &[u8]) -> bool
 /// The first category of which the word is a spelling.
 pub fn spelled(cats: &[Cat], word: &[u8]) -> Result<Option<CatId>, NoMemory>
     ensures { IfOk result
-        (λ found. MatchOption found (IsNoSpelling cats.now word.now) (λ c. IsSpellingOf cats.now c.0 word.now)) }
+        (λ found. MatchOption found (IsNoSpelling cats.now word.now) (λ c. IsCategoryWord cats.now c.0 word.now)) }
 {
     for i in 0..cats.len() {
         if is_spelling(cats[i].name.bytes(), word) {

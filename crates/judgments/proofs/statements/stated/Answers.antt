@@ -1,13 +1,13 @@
 use Rattle.std.proofs.Common.{◌≡◌, ◌∙◌, sym, length, None}
 use Rattle.rule_schemes.specs.View.{theory, statement as plain_statement}
 use Rattle.judgments.specs.Texts.{group_of}
-use Rattle.judgments.proofs.FileStatements.{targets_none, some_texts, no_texts, none_assumed, none_when_not_some, same_theorem, alone_stated, alone_none}
+use Rattle.judgments.proofs.FileStatements.{targets_none, some_target, no_targets_at_all, none_assumed, none_when_not_some, same_theorem, alone_stated, alone_none}
 use Rattle.judgments.proofs.statements.stated.Goals as goal
 
 pub returns-then-len-ne0 : goal.returns-then-len-ne0
 returns-then-len-ne0 c =
     rw c.in-Theorem.is
-    (targets_none (theory c.args.sys.now) _ (some_texts (λ name. name.now) c.in-Theorem.targets.items (λ e. c.if-len-ne0.true (c.len.ensures ∙ c.in-Theorem.targets.ok.0 ∙ e))))
+    (targets_none (theory c.args.sys.now) _ (some_target (λ name. name.now) c.in-Theorem.targets.items _ (λ e. c.if-len-ne0.true (c.len.ensures ∙ c.in-Theorem.targets.ok.0 ∙ e))))
 
 pub returns-in_ok-alone-in-Some : goal.returns-in_ok-alone-in-Some
 returns-in_ok-alone-in-Some c =
@@ -16,7 +16,8 @@ returns-in_ok-alone-in-Some c =
     rw (c.in-Theorem.is, c.in_ok-alone-in-Some.ensures)
     (alone_stated (theory c.args.sys.now) _ _ (plain_statement c.in-Some.statement)
     (same_theorem (λ form. form.now) (group_of c.args.groups c.in-Theorem.joined) c.in-Theorem.name.now.text.now _ c.in-Theorem.inputs.items c.in-Theorem.outputs.items _
-    (none_assumed (λ name. name.now) c.in-Theorem.assumes assumed) (no_texts (λ name. name.now) c.in-Theorem.targets.items empty))
+    (none_assumed (λ name. name.now) c.in-Theorem.assumes assumed)
+    (no_targets_at_all (λ name. name.now) c.in-Theorem.targets.items _ empty (c.begins_without_target.ensures.0 c.if-not-begins_without_target.false)))
     (rw (c.in-Some.is, c.group_of-group.ensures, c.as_slice.ensures.value, c.as_slice-in-Theorem.ensures.value) at c.in_ok-statement-in-Theorem.ensures))
 
 pub returns-in-None : goal.returns-in-None
@@ -26,5 +27,6 @@ returns-in-None c =
     rw c.in-Theorem.is
     (alone_none (theory c.args.sys.now) _ _
     (same_theorem (λ form. form.now) (group_of c.args.groups c.in-Theorem.joined) c.in-Theorem.name.now.text.now _ c.in-Theorem.inputs.items c.in-Theorem.outputs.items _
-    (none_assumed (λ name. name.now) c.in-Theorem.assumes assumed) (no_texts (λ name. name.now) c.in-Theorem.targets.items empty))
+    (none_assumed (λ name. name.now) c.in-Theorem.assumes assumed)
+    (no_targets_at_all (λ name. name.now) c.in-Theorem.targets.items _ empty (c.begins_without_target.ensures.0 c.if-not-begins_without_target.false)))
     (rw (c.in-None.is, c.group_of-group.ensures, c.as_slice.ensures.value, c.as_slice-in-Theorem.ensures.value) at c.in_ok-statement-in-Theorem.ensures))
