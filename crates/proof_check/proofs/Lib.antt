@@ -7,6 +7,5 @@ mod StepLemmas
 mod ProofLemmas
 mod FileLemmas
 mod ProvableLemmas
-mod BareLemmas
 mod RightFiles
 mod LeadsLemmas

@@ -82,7 +82,7 @@ all_provable th (text ∷ texts) (st ∷ sts) h bare ones = (provable_of th text
 -- nothing binds over a bare statement of a bare theory
 binds_nothing : (th : Theory) (text : TheoremText) (st : Theorem) → IsBareTheory th → IsTheoremOf th text st → IsBareStatement st → NothingBinds th.sig st.scope.metas
 binds_nothing th text st bare_theory is bare = record {
-  variables = bare_theory.sig.no_variable;
+  variables = bare_theory.sig.variables;
   names = names_apart st.scope.metas _ (ap (map (λ k. k.name)) is.scope.1) is.scope.2;
   parameters = bare.parameters;
 }

@@ -1,5 +1,4 @@
 use Rattle.std.proofs.lemmas.Result.{IfOk-weaker}
-use Rattle.proof_check.proofs.BareLemmas.{bare_of}
 use Rattle.proof_check.proofs.RightFiles.{only_as, signature_there, signature_back}
 use Rattle.proof_check.proofs.file.parts_of.Goals as goal
 
@@ -13,4 +12,4 @@ returns-in-Some c =
 pub returns-in-None : goal.returns-in-None
 returns-in-None c =
     let none = rw c.in-None.is at c.in_ok-sig.ensures in
-    λ th sts steps is. none th.sig is.0.signature (bare_of _ is.1.theory.sig)
+    λ th sts steps is. none th.sig is.0.signature is.1.theory.sig

@@ -1,10 +1,6 @@
 use Rattle.std.proofs.lemmas.Result.{IfOk-weaker}
-use Rattle.proof_check.proofs.BareLemmas.{bare_in}
 use Rattle.proof_check.proofs.RightFiles.{only_as, theory_there, theory_back}
 use Rattle.proof_check.proofs.file.theory_of.Goals as goal
-
-pub system_of-requires : goal.system_of-requires
-system_of-requires c = bare_in _ c.requires.bare
 
 pub returns-in-Some : goal.returns-in-Some
 returns-in-Some c =
