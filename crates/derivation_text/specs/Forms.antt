@@ -1,4 +1,4 @@
--- What a line of a derivation text says. To be held against docs/notation.md, 'Derivation text'.
+-- What a line of a derivation text says. To be held against docs/notation.md, 'Derivation texts'.
 use Rattle.std.specs.Prelude.{◌≡◌, ◌≢◌, ℕ, ◌+◌, ◌==◌, ◌&&◌, ◌||◌, not, Bool, false, IsTrue, IsFalse, List, [], ◌∷◌, ◌++◌, codes}
 use Rattle.std.specs.List.{AllByRecursion}
 use Rattle.std.specs.Str.{bytes_eq}

@@ -1,7 +1,9 @@
--- The inputs of a statement for which a derivation text stands. To be held against docs/notation.md, 'Derivation text'.
+-- The inputs of a statement for which a derivation text stands. To be held against docs/notation.md, 'Derivation texts'.
 use Rattle.std.specs.Prelude.{◌≡◌, ◌≤◌, ℕ, ◌+◌, List, [], ◌∷◌, Some, slice_get, MatchOption}
 use Rattle.std.specs.List.{AllByRecursion}
 use Rattle.scheme_terms.specs.SchemeTree.{SchemeTree}
+use Rattle.scheme_terms.specs.declared.scheme.Root.{Root}
+use Rattle.scheme_terms.specs.declared.scheme.Root.TheVariants.{Closed, Empty, Whole}
 use Rattle.scheme_terms.specs.Instance.{instance_of}
 use Rattle.rule_schemes.specs.Rules.{Theory}
 use Rattle.rule_schemes.specs.Derivation.{size, height}
@@ -9,15 +11,22 @@ use Rattle.rule_schemes.specs.Statement.{Theorem, StatementInput, given, syntax_
 use Rattle.rule_schemes.specs.Said.{want_term, a_term}
 use Rattle.rule_schemes.specs.AtValue.{no_names}
 use Rattle.derivation_text.specs.Forms.{Argument, by_name, enclosed}
-use Rattle.derivation_text.specs.Valid.{Around, ReadsAlone, tree_named, Contents, applied, IsText}
+use Rattle.derivation_text.specs.Valid.{Around, nothing_around, ReadsAlone, tree_named, Contents, applied, IsText}
+
+-- What is around the terms of a statement: what the context line gives, but for a statement without a context, for which such a line names a
+-- value and no more.
+abbrev pub around_for : Root → Around → Around
+around_for Closed around = nothing_around
+around_for (Empty c) around = around
+around_for (Whole c) around = around
 
 -- an argument stands for an input: a name for its tree, a form in parentheses for the one term that it reads as
 abbrev pub StandsFor : Theory → Theorem → Around → Contents → StatementInput → Argument → InputTree → Type 0
 StandsFor th st around c (given j) (by_name w) (derived d) = tree_named c.named w ≡ Some d
 StandsFor th st around c (syntax_input m) (enclosed form) (term t) =
     MatchOption (slice_get st.scope.metas m) ⊥
-    (λ decl. (s : SchemeTree) × ReadsAlone th around (want_term decl.cat.0 ∷ []) form 0 (a_term s)
-    × (t ≡ instance_of (no_names around.value) 0 s))
+    (λ decl. (s : SchemeTree) × ReadsAlone th (around_for st.scope.root around) (want_term decl.cat.0 ∷ []) form 0 (a_term s)
+    × (t ≡ instance_of (no_names (around_for st.scope.root around).value) 0 s))
 StandsFor th st around c _ _ _ = ⊥
 
 -- one argument for each input

@@ -1,4 +1,4 @@
--- The lines of a text, each with its number. To be held against docs/notation.md, 'Derivation text'.
+-- The lines of a text, each with its number. To be held against docs/notation.md, 'Derivation texts'.
 use Rattle.std.specs.Prelude.{ℕ, ◌==◌, if◌then◌else◌, List, [], ◌∷◌}
 use Rattle.sy_base.specs.Tokens.{PlainToken}
 use Rattle.rule_schemes.specs.Reading.{Token}

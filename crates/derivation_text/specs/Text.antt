@@ -1,4 +1,4 @@
--- The text of derivations. To be held against docs/notation.md, 'Derivation text'.
+-- The text of derivations. To be held against docs/notation.md, 'Derivation texts'.
 use Rattle.std.specs.Prelude.{ℕ, ◌+◌, Bool, true, false, ◌==◌, ◌&&◌, if◌then◌else◌, List, [], ◌∷◌, ◌++◌, length, map, drop, Option, None, Some, option_map, unwrap_or, slice_get, codes, decimal}
 use Rattle.binding_terms.specs.Tree.{Tree, var, con, Args, no_args, arg}
 use Rattle.binding_terms.specs.Signature.{Signature}

@@ -1,4 +1,4 @@
--- Which derivation texts are valid, and what their names stand for. To be held against docs/notation.md, 'Derivation text'.
+-- Which derivation texts are valid, and what their names stand for. To be held against docs/notation.md, 'Derivation texts'.
 use Rattle.std.specs.Prelude.{◌≡◌, ◌≢◌, ◌⊎◌, ◌≤◌, ℕ, ◌+◌, Bool, true, List, [], ◌∷◌, ◌++◌, length, Option, Some, None, option_map, slice_get, find, position}
 use Rattle.std.specs.List.{AllByRecursion, AllZip}
 use Rattle.std.specs.Str.{bytes_eq}

@@ -87,7 +87,7 @@ fn read_lines<'a>(
 
 /// The lines of a derivation text, or none where it is not valid.
 ///
-/// A text is valid where each of its lines is, by docs/notation.md, 'Derivation text'. The tree of each name is then a derivation. Here no
+/// A text is valid where each of its lines is, by docs/notation.md, 'Derivation texts'. The tree of each name is then a derivation. Here no
 /// judgment assumes a context, so no text with a context line is valid.
 pub fn read_derivs(alloc: Global, sys: &System, source: &[u8]) -> Result<Option<Derivs>, NoMemory>
     requires short { length source.now < 2 ^ 32 - 1 }

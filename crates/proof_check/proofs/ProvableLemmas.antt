@@ -1,14 +1,13 @@
 -- The statements of a file can be proved.
-use Rattle.std.proofs.Common.{◌≡◌, ◌≢◌, ◌⊎◌, ℕ, suc, ◌+◌, List, [], ◌∷◌, ◌++◌, length, map, inl, inr, refl, sym, ◌∙◌, ap, subst, arith}
+use Rattle.std.proofs.Common.{◌≡◌, ◌≢◌, ◌⊎◌, ℕ, suc, ◌+◌, List, [], ◌∷◌, ◌++◌, length, map, inl, inr, refl, sym, ap, subst, arith}
 use Rattle.std.specs.List.{AllByRecursion, AllZip}
 use Rattle.binding_terms.specs.Numbered.{AllNumbered}
-use Rattle.scheme_terms.specs.Forms.{Names}
 use Rattle.scheme_terms.specs.SchemeScope.{AreDifferentNames}
 use Rattle.scheme_terms.specs.declared.scheme.MetaDecl.{MetaDecl}
 use Rattle.rule_schemes.specs.Rules.{Theory}
 use Rattle.rule_schemes.specs.Statement.{StatementInput, given, syntax_input, Theorem, IsOfInputs, IsOfOutputs}
 use Rattle.notation_parser.specs.Plain.{NamesApart, NothingBinds}
-use Rattle.judgments.specs.Bare.{IsBareTheory, IsBareStatement, IsGivenInput, IsBareJudgment}
+use Rattle.judgments.specs.Bare.{IsBareTheory, IsBareStatement, IsGivenInput}
 use Rattle.judgments.specs.Texts.{TheoremText}
 use Rattle.judgments.specs.Statements.{IsTheoremOf}
 use Rattle.core_proofs.specs.Provable.{IsProvable, IsOfDerivation}

@@ -104,9 +104,9 @@ proved_steps portions one ones those sig theory are steps only (Some kept) found
     found.0,
     found.1,
     subst (λ (t : Theory). IsFileOf portions t (kept_statements kept) (kept_steps kept)) (sym found.0)
-    (subst (λ (s : List Theorem). IsFileOf portions one s (kept_steps kept)) (sym found.1)
-    (subst (λ (s : List Step). IsFileOf portions one ones s) (sym found.2)
-    (record { signature = sig; theory = theory; are_statements = are; are_steps = steps; proves = found.3 }))),
+        (subst (λ (s : List Theorem). IsFileOf portions one s (kept_steps kept)) (sym found.1)
+        (subst (λ (s : List Step). IsFileOf portions one ones s) (sym found.2)
+        (record { signature = sig; theory = theory; are_statements = are; are_steps = steps; proves = found.3 }))),
   ),
   λ th sts ss is. (is.0 ∙ sym found.0, is.1 ∙ sym found.1, only ss (steps_in portions one ones th sts ss is).are_steps ∙ sym found.2),
 )
@@ -131,10 +131,10 @@ no_tokens source NoMemory want is apart tokens are = want refl
 -- what was kept is what was handed in
 pub as_kept : (system : Parts) (statements : List Statement) (steps : List CoreStep) (found : Option Kept)
     → MatchOption found (Proves (theory system) (map statement statements) (map step steps) → ⊥)
-      (λ kept. (kept ≡ record { system = system; statements = statements; steps = steps }) × Proves (theory system) (map statement statements) (map step steps))
+    (λ kept. (kept ≡ record { system = system; statements = statements; steps = steps }) × Proves (theory system) (map statement statements) (map step steps))
     → MatchOption found (Proves (theory system) (map statement statements) (map step steps) → ⊥)
-      (λ kept. (kept_theory kept ≡ theory system) × (kept_statements kept ≡ map statement statements) × (kept_steps kept ≡ map step steps)
-      × Proves (theory system) (map statement statements) (map step steps))
+    (λ kept. (kept_theory kept ≡ theory system) × (kept_statements kept ≡ map statement statements) × (kept_steps kept ≡ map step steps)
+    × Proves (theory system) (map statement statements) (map step steps))
 as_kept system statements steps None is = is
 as_kept system statements steps (Some kept) is = (ap kept_theory is.0, ap kept_statements is.0, ap kept_steps is.0, is.1)
 

@@ -40,7 +40,7 @@ IsOnlyFile P None = (th : Theory) (statements : List Theorem) (steps : List Step
 IsOnlyFile P (Some kept) =
     P (kept_theory kept) (kept_statements kept) (kept_steps kept)
     × ((th : Theory) (statements : List Theorem) (steps : List Step) → P th statements steps →
-      (th ≡ kept_theory kept) × (statements ≡ kept_statements kept) × (steps ≡ kept_steps kept))
+    (th ≡ kept_theory kept) × (statements ≡ kept_statements kept) × (steps ≡ kept_steps kept))
 
 -- the portions stand for a right file that is built so far
 abbrev pub IsBuiltFileOf : List PlainPortion → Theory → List Theorem → List Step → Type 0

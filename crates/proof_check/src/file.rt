@@ -43,7 +43,7 @@ fn prove(
     ensures { IfOk result (λ found. MatchOption found
         (Proves (theory system) (map plain_statement statements.items) (map plain_step steps.items) → ⊥)
         (λ accepted. (accepted ≡ record { system = system; statements = statements.items; steps = steps.items })
-            × Proves (theory system) (map plain_statement statements.items) (map plain_step steps.items))) }
+        × Proves (theory system) (map plain_statement statements.items) (map plain_step steps.items))) }
 {
     let mut proving = Proving::open(alloc, system, statements)?;
     for step in steps {
@@ -120,11 +120,7 @@ fn theorems_of(
 }
 
 /// The theory, statements and proofs of a file whose signature is told.
-fn theory_of(
-    alloc: Global,
-    outline: &Outline<'_>,
-    sig: Sig,
-) -> Result<Option<Accepted>, NoMemory>
+fn theory_of(alloc: Global, outline: &Outline<'_>, sig: Sig) -> Result<Option<Accepted>, NoMemory>
     requires signature { IsSignatureOf (outlined outline.now) sig }
     requires bare { IsBareSignature sig }
     ensures { IfOk result (IsOnlyFile (λ th sts steps. (th.sig ≡ sig) × IsBuiltFileOf (outlined outline.now) th sts steps)) }

@@ -5,7 +5,7 @@ use Rattle.std.specs.Str.{bytes_eq}
 use Rattle.std.specs.List.{AllByRecursion}
 use Rattle.rule_schemes.specs.Rules.{Theory, IsSystemSoFar}
 use Rattle.rule_schemes.specs.Derivation.{Derivation, Derives}
-use Rattle.rule_schemes.specs.Statement.{Theorem, StatementInput, given, syntax_input, InputTree, derived, term}
+use Rattle.rule_schemes.specs.Statement.{Theorem, StatementInput, given, syntax_input, InputTree, derived}
 use Rattle.derivation_text.specs.Bare.{HasNoContexts, TakesDerivations}
 use Rattle.derivation_text.specs.Found.{AllDerive}
 use Rattle.derivation_text.specs.Forms.{Argument, by_name, enclosed}
@@ -47,7 +47,7 @@ pub given_of : (th : Theory) (st : Theorem) (lines : List ℕ) (c : Contents) �
     → IsText th lines nothing_around c → AllDerive th c.named → (found : Option (Vec Derivation Global))
     → MatchOption found (HasNoInputs th st c) (λ ds. GivesInputs th st nothing_around c (map derived ds.items))
     → MatchOption found ((xs : List InputTree) → StandsForInputs th st lines xs → ⊥)
-      (λ ds. StandsForInputs th st lines (map derived ds.items) × AllByRecursion (Derives th) ds.items × ((xs : List InputTree) → StandsForInputs th st lines xs → xs ≡ map derived ds.items))
+    (λ ds. StandsForInputs th st lines (map derived ds.items) × AllByRecursion (Derives th) ds.items × ((xs : List InputTree) → StandsForInputs th st lines xs → xs ≡ map derived ds.items))
 given_of th st lines c system bare takes of_text of_source text all None none =
     λ xs stands. none xs ((of_text th st lines nothing_around c xs system bare text).1 stands)
 given_of th st lines c system bare takes of_text of_source text all (Some ds) gives =

@@ -1,5 +1,5 @@
 -- What an accepted file says of what is run on it.
-use Rattle.std.proofs.Common.{◌≡◌, ◌≢◌, ◌<◌, ℕ, zero, suc, List, [], ◌∷◌, map, length, Option, Some, None, Vec, Global, inl, inr, refl, ap, sym, ◌∙◌, subst, arith}
+use Rattle.std.proofs.Common.{◌≡◌, ◌≢◌, ◌<◌, ℕ, zero, suc, List, [], ◌∷◌, map, length, Option, Some, None, Vec, Global, inl, inr, ap, sym, ◌∙◌, subst, arith}
 use Rattle.std.proofs.lemmas.Bool.{cases_order}
 use Rattle.std.specs.Prelude.{◌↔◌, Bool, IsTrue, IfNone, IfSome, MatchOption, slice_get, slice_index_or, option_map}
 use Rattle.std.specs.List.{AllByRecursion}

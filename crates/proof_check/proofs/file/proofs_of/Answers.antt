@@ -1,6 +1,4 @@
-use Rattle.std.proofs.Common.{List, map, sym, subst, ap}
 use Rattle.std.proofs.lemmas.Result.{IfOk-weaker}
-use Rattle.rule_schemes.specs.Statement.{Theorem}
 use Rattle.proof_check.proofs.ProvableLemmas.{all_provable, plain_of}
 use Rattle.proof_check.proofs.RightFiles.{proved_steps, no_steps, as_kept}
 use Rattle.proof_check.proofs.file.proofs_of.Goals as goal

@@ -1,4 +1,3 @@
-use Rattle.std.proofs.Common.{◌≡◌, List, map}
 use Rattle.std.proofs.lemmas.Result.{IfOk-weaker}
 use Rattle.outline_reader.specs.Plain.{HasPortions, outlined}
 use Rattle.proof_check.proofs.RightFiles.{only_as, right_there, right_back, portions_of}

@@ -1,4 +1,4 @@
-use Rattle.std.proofs.Common.{◌≡◌, List, sym, ◌∙◌, subst}
+use Rattle.std.proofs.Common.{◌∙◌}
 use Rattle.std.specs.Prelude.{IsTrue}
 use Rattle.sasylf_command.proofs.Judged.{fits_at, makes_text}
 use Rattle.sasylf_command.proofs.judging.run_text.Goals as goal
