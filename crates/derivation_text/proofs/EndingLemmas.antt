@@ -1,8 +1,8 @@
 -- The arguments and names of the last line of a text.
 use Rattle.std.proofs.Common.{◌≡◌, ◌<◌, ◌≤◌, ◌+◌, ℕ, length-drop, ◌==◌, Bool, true, false, ◌&&◌, IsTrue, List, [], ◌∷◌, ◌++◌, length, map, take, drop, refl, ap, ◌∙◌, sym, subst, arith, get_or, Some, None, nat_eq, if◌then◌else◌, option_map, append-nil, append_assoc, inl, inr, true≢false, drop-cons, add-one}
-use Rattle.std.specs.Prelude.{Option, is_some, Result, Ok, Err, IfOk, MatchBool}
+use Rattle.std.specs.Prelude.{Option, is_some, Result, Ok, Err, IfOk, IfSome, MatchBool, MatchOption, ◌-◌}
 use Rattle.std.proofs.Math.Seq.{take-suc}
-use Rattle.std.proofs.lemmas.List.{map-append}
+use Rattle.std.proofs.lemmas.List.{map-append, drop-drop, take_all}
 use Rattle.std.specs.List.{AllByRecursion}
 use Rattle.rule_schemes.specs.Reading.{word, punctuation}
 use Rattle.rule_schemes.specs.Reading.{Token as Read}
@@ -16,6 +16,8 @@ use Rattle.rule_schemes.specs.Derivation.{Derivation}
 use Rattle.derivation_text.proofs.CitedLemmas.{if_some, if_true, with_some, comma_is}
 use Rattle.derivation_text.specs.Ending as spec
 use Rattle.derivation_text.specs.Ending.{Closes, HasNoClosing, Turns, IsFront, HasNoFront, IsRest, HasNoRest, IsArguments, HasNoArguments, HasNoLast}
+use Rattle.derivation_text.specs.Contents.{argument}
+use Rattle.derivation_text.specs.declared.arguments.Argued.{Argued}
 use Rattle.derivation_text.specs.declared.derivs.Named.{Named}
 use Rattle.derivation_text.proofs.NodeLemmas.{heads, tails, name_is_word}
 
@@ -204,10 +206,6 @@ first_argument known ts t (a ∷ more) h =
 rest_none : (known : List Named) → IsRest known [] []
 rest_none known = record { tokens_are = refl; are_arguments = tt; are_known = tt }
 
--- at the end of the tokens
-pub rest_at_end : (known : List Named) (old : List Argument) → (more : List Argument) × (old ≡ old ++ more) × IsRest known [] more
-rest_at_end known old = ([], sym (append-nil old), rest_none known)
-
 pub no_comma : (known : List Named) (t : Read) (ts : List Read) → (t ≡ punctuation 44 → ⊥) → HasNoRest known (t ∷ ts)
 no_comma known t ts none all h = none (first_argument known ts t all h).3
 
@@ -215,12 +213,6 @@ pub no_argument : (known : List Named) (t : Read) (ts : List Read) → HasNoFron
 no_argument known t ts none all h =
     let first = first_argument known ts t all h in
     none first.0 (further_arguments first.1) first.4
-
-no_more : (known : List Named) (t : Read) (ts rest : List Read) (a : Argument) → IsFront known ts a rest → HasNoRest known rest → HasNoRest known (t ∷ ts)
-no_more known t ts rest a front none all h =
-    let first = first_argument known ts t all h in
-    let once = front_once known ts first.0 a (further_arguments first.1) rest first.4 front in
-    none first.1 (record { tokens_are = sym once.1; are_arguments = first.5; are_known = first.6 })
 
 one_more : (known : List Named) (t : Read) (ts rest : List Read) (a : Argument) (more : List Argument) → t ≡ punctuation 44 → IsFront known ts a rest → IsRest known rest more → IsRest known (t ∷ ts) (a ∷ more)
 one_more known t ts rest a more comma front h =
@@ -231,15 +223,94 @@ one_more known t ts rest a more comma front h =
       are_known = (front.is_known, h.are_known);
     }
 
--- after one argument more
-pub rest_after : {E : Type 0} (known : List Named) (t : Read) (ts rest : List Read) (a : Argument) (old mid new : List Argument) (r : Result Bool E) → t ≡ punctuation 44 → IsFront known ts a rest
-    → mid ≡ old ++ a ∷ []
-    → IfOk r (λ good. MatchBool good ((more : List Argument) × (new ≡ mid ++ more) × IsRest known rest more) (HasNoRest known rest))
-    → IfOk r (λ good. MatchBool good ((more : List Argument) × (new ≡ old ++ more) × IsRest known (t ∷ ts) more) (HasNoRest known (t ∷ ts)))
-rest_after known t ts rest a old mid new (Ok true) comma front e h =
-    (a ∷ h.0, h.1 ∙ ap (λ (x : List Argument). x ++ h.0) e ∙ append_assoc old (a ∷ []) h.0, one_more known t ts rest a h.0 comma front h.2)
-rest_after known t ts rest a old mid new (Ok false) comma front e h = no_more known t ts rest a front h
-rest_after known t ts rest a old mid new (Err x) comma front e h = tt
+-- the arguments up to a place of the tokens, after those before, and what is still to come
+pub record Gathers (known : List Named) (whole : List Read) (before now : List Argument) (back : List Read) : Type 0 where
+  pub forth : (all : List Argument) → IsRest known whole all → (more : List Argument) × IsRest known back more
+  pub back_from : (more : List Argument) → IsRest known back more → (all : List Argument) × (now ++ more ≡ before ++ all) × IsRest known whole all
+
+pub gathers_none : (known : List Named) (whole : List Read) (before : List Argument) → Gathers known whole before before whole
+gathers_none known whole before = record { forth = λ all h. (all, h); back_from = λ more h. (more, refl, h) }
+
+-- one argument more
+gathers_one : (known : List Named) (whole : List Read) (before now next : List Argument) (t : Read) (ts rest : List Read) (a : Argument)
+    → Gathers known whole before now (t ∷ ts) → t ≡ punctuation 44 → IsFront known ts a rest → next ≡ now ++ a ∷ [] → Gathers known whole before next rest
+gathers_one known whole before now next t ts rest a g comma front e =
+    record {
+      forth = λ all h.
+          (let here = g.forth all h in
+          let first = first_argument known ts t here.0 here.1 in
+          let once = front_once known ts first.0 a (further_arguments first.1) rest first.4 front in
+          (first.1, record { tokens_are = sym once.1; are_arguments = first.5; are_known = first.6 }));
+      back_from = λ more h.
+          (let all = g.back_from (a ∷ more) (one_more known t ts rest a more comma front h) in
+          (all.0, ap (λ (x : List Argument). x ++ more) e ∙ (append_assoc now (a ∷ []) more ∙ all.1), all.2));
+    }
+
+gathers_end : (known : List Named) (whole : List Read) (before now : List Argument) → Gathers known whole before now []
+    → (more : List Argument) × (now ≡ before ++ more) × IsRest known whole more
+gathers_end known whole before now g = (let all = g.back_from [] (rest_none known) in (all.0, sym (append-nil now) ∙ all.1, all.2))
+
+-- no argument is left
+pub gathers_all : (known : List Named) (tokens : List Token) (i : ℕ) (before now : List Argument) → length tokens ≤ i
+    → Gathers known (map token tokens) before now (map token (drop i tokens))
+    → (more : List Argument) × (now ≡ before ++ more) × IsRest known (map token tokens) more
+gathers_all known tokens i before now past g =
+    gathers_end known (map token tokens) before now (subst (λ (x : List Token). Gathers known (map token tokens) before now (map token x)) (drop_past tokens i past) g)
+
+-- the tokens from a place on
+pub behind_is : (tokens : List Token) (i : ℕ) → take (length tokens - i) (drop i tokens) ≡ drop i tokens
+behind_is tokens i = take_all (length tokens - i) (drop i tokens) (omega (arith, length-drop i tokens))
+
+-- what is found after a comma
+abbrev pub IsAfterComma : List Named → Read → List Token → Option Argued → Type 0
+IsAfterComma known comma ts found =
+    MatchOption found (HasNoRest known (comma ∷ map token ts))
+    (λ p. (comma ≡ punctuation 44) × IsFront known (map token ts) (argument p.argument) (map token (drop (p.more + 1) ts)))
+
+-- what is still to come are no arguments
+pub gathers_wrong : (known : List Named) (tokens : List Token) (i : ℕ) (d : Token) (before now : List Argument) (found : Option Argued) → i < length tokens
+    → Gathers known (map token tokens) before now (map token (drop i tokens))
+    → IsAfterComma known (token (get_or tokens i d)) (take (length tokens - (i + 1)) (drop (i + 1) tokens)) found → found ≡ None
+    → HasNoRest known (map token tokens)
+gathers_wrong known tokens i d before now (Some p) within g next e = absurd (cc)
+gathers_wrong known tokens i d before now None within g next e =
+    λ all h.
+    (let here = g.forth all h in
+    let none = subst (λ (x : List Token). HasNoRest known (token (get_or tokens i d) ∷ map token x)) (behind_is tokens (i + 1)) next in
+    none here.0 (subst (λ (x : List Read). IsRest known x here.0) (split_drop tokens i d within) here.1))
+
+drop_twice : (tokens : List Token) (i n : ℕ) → drop (n + 1) (drop (i + 1) tokens) ≡ drop (i + (n + 2)) tokens
+drop_twice tokens i n = (let e : (i + 1) + (n + 1) ≡ i + (n + 2) = omega arith in drop-drop (n + 1) (i + 1) tokens ∙ ap (λ (k : ℕ). drop k tokens) e)
+
+gathers_front : (known : List Named) (tokens : List Token) (i n : ℕ) (d : Token) (before now next : List Argument) (a : Argument) → i < length tokens
+    → Gathers known (map token tokens) before now (map token (drop i tokens))
+    → token (get_or tokens i d) ≡ punctuation 44 → IsFront known (map token (drop (i + 1) tokens)) a (map token (drop (n + 1) (drop (i + 1) tokens)))
+    → next ≡ now ++ a ∷ []
+    → Gathers known (map token tokens) before next (map token (drop (i + (n + 2)) tokens))
+gathers_front known tokens i n d before now next a within g comma front e =
+    subst (λ (x : List Token). Gathers known (map token tokens) before next (map token x)) (drop_twice tokens i n)
+    (gathers_one known (map token tokens) before now next (token (get_or tokens i d)) (map token (drop (i + 1) tokens)) _ a
+    (subst (Gathers known (map token tokens) before now) (split_drop tokens i d within) g) comma front e)
+
+pub gathers_next : (known : List Named) (tokens : List Token) (i : ℕ) (d : Token) (before now next : List Argument) (found : Option Argued) (p : Argued) → i < length tokens
+    → Gathers known (map token tokens) before now (map token (drop i tokens))
+    → IsAfterComma known (token (get_or tokens i d)) (take (length tokens - (i + 1)) (drop (i + 1) tokens)) found → found ≡ Some p
+    → next ≡ now ++ argument p.argument ∷ []
+    → Gathers known (map token tokens) before next (map token (drop (i + (p.more + 2)) tokens))
+gathers_next known tokens i d before now next None p within g after e more = absurd (cc)
+gathers_next known tokens i d before now next (Some q) p within g after e more =
+    let same : q ≡ p = (let h : Some q ≡ Some p = e in cc) in
+    let whole = subst (λ (x : List Token). IsAfterComma known (token (get_or tokens i d)) x (Some q)) (behind_is tokens (i + 1)) after in
+    let here = subst (λ (x : Argued). IsAfterComma known (token (get_or tokens i d)) (drop (i + 1) tokens) (Some x)) same whole in
+    gathers_front known tokens i p.more d before now next (argument p.argument) within g here.0 here.1 more
+
+-- an argument ends within the tokens
+pub next_fits : (tokens : List Token) (i : ℕ) (found : Option Argued) (p : Argued) → i < length tokens
+    → IfSome found (λ x. x.more < length (take (length tokens - (i + 1)) (drop (i + 1) tokens))) → found ≡ Some p → i + (p.more + 2) ≤ length tokens
+next_fits tokens i None p within short e = absurd (cc)
+next_fits tokens i (Some q) p within short e =
+    let same : q ≡ p = (let h : Some q ≡ Some p = e in cc) in
+    omega (arith, short, ap (λ (x : Argued). x.more) same, ap length (behind_is tokens (i + 1)), length-drop (i + 1) tokens)
 
 arguments_front : (known : List Named) (ts : List Read) (all : List Argument) → (ts ≡ [] → ⊥) → IsArguments known ts all
     → (a : Argument) × (more : List Argument) × (all ≡ a ∷ more) × IsFront known ts a (further_arguments more) × IsRest known (further_arguments more) more
@@ -384,3 +455,21 @@ false_case P false h e = h
 pub empty_list : {A B : Type 0} (f : A → B) (xs : List A) → map f xs ≡ [] → length xs ≡ 0
 empty_list f [] e = refl
 empty_list f (x ∷ xs) e = absurd (let h : f x ∷ map f xs ≡ [] = e in cc)
+
+-- the tokens after the first of an argument, and those after all of it
+pub front_after : {E : Type 0} (known : List Named) (first : Token) (rest : List Token) (r : Result (Option Argued) E)
+    → IfOk r (λ found. MatchOption found (HasNoFront known (map token (first ∷ rest))) (λ p. IsFront known (map token (first ∷ rest)) (argument p.argument) (map token (drop p.more rest))))
+    → IfOk r (λ found. MatchOption found (HasNoFront known (map token (first ∷ rest))) (λ p. IsFront known (map token (first ∷ rest)) (argument p.argument) (map token (drop (p.more + 1) (first ∷ rest)))))
+front_after known first rest (Ok (Some p)) h =
+    subst (λ (n : ℕ). IsFront known (map token (first ∷ rest)) (argument p.argument) (map token (drop n (first ∷ rest)))) (sym (add-one p.more)) h
+front_after known first rest (Ok None) h = h
+front_after known first rest (Err e) h = tt
+
+-- a front after a comma
+pub comma_front : {E : Type 0} (known : List Named) (comma : Read) (tokens : List Token) (r : Result (Option Argued) E) → comma ≡ punctuation 44
+    → IfOk r (λ found. MatchOption found (HasNoFront known (map token tokens)) (λ p. IsFront known (map token tokens) (argument p.argument) (map token (drop (p.more + 1) tokens))))
+    → IfOk r (λ found. MatchOption found (HasNoRest known (comma ∷ map token tokens))
+    (λ p. (comma ≡ punctuation 44) × IsFront known (map token tokens) (argument p.argument) (map token (drop (p.more + 1) tokens))))
+comma_front known comma tokens (Ok (Some p)) e h = (e, h)
+comma_front known comma tokens (Ok None) e h = no_argument known comma (map token tokens) h
+comma_front known comma tokens (Err x) e h = tt

@@ -1,6 +1,7 @@
 //! Judgments and derivations as text, both ways.
 #![tactic(auto)]
 
+mod arguments;
 mod cited;
 mod context;
 mod derivation;
@@ -11,6 +12,7 @@ mod judgment;
 mod laws;
 mod line;
 mod making;
+mod names;
 mod node;
 mod page;
 mod reader;

@@ -1,7 +1,7 @@
 use Rattle.std.proofs.Common.{◌≡◌, ◌++◌, map, option_map, length}
 use Rattle.notation_parser.specs.View.{token}
 use Rattle.derivation_text.specs.Ending as spec
-use Rattle.derivation_text.proofs.ending.further_names.Given as goal
+use Rattle.derivation_text.proofs.names.further_names.Given as goal
 
 abbrev pub invariant-loop-rest : goal.invariant-loop-rest
 invariant-loop-rest l =

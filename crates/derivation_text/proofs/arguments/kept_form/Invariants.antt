@@ -1,7 +1,7 @@
 use Rattle.std.proofs.Common.{◌≡◌, map, take}
 use Rattle.notation_parser.specs.View.{token}
 use Rattle.derivation_text.specs.Contents.{kept_token}
-use Rattle.derivation_text.proofs.ending.kept_form.Given as goal
+use Rattle.derivation_text.proofs.arguments.kept_form.Given as goal
 
 abbrev pub invariant-loop-one : goal.invariant-loop-one
 invariant-loop-one l = map kept_token l.all ≡ map token (take l.one-index l.tokens)

@@ -2,7 +2,7 @@ use Rattle.std.proofs.Common.{map, take}
 use Rattle.notation_parser.specs.View.{token}
 use Rattle.derivation_text.proofs.NodeLemmas.{empty_map, not_when}
 use Rattle.derivation_text.proofs.EndingLemmas.{no_front_form}
-use Rattle.derivation_text.proofs.ending.enclosed.Goals as goal
+use Rattle.derivation_text.proofs.arguments.enclosed.Goals as goal
 
 pub returns-then-form-eq0-clause-front : goal.returns-then-form-eq0-clause-front
 returns-then-form-eq0-clause-front c known =

@@ -1,7 +1,7 @@
 use Rattle.std.proofs.Common.{map, arith}
 use Rattle.notation_parser.specs.View.{token}
 use Rattle.derivation_text.proofs.EndingLemmas.{passes_next, passes_found, none_left}
-use Rattle.derivation_text.proofs.ending.closing.Goals as goal
+use Rattle.derivation_text.proofs.arguments.closing.Goals as goal
 
 pub returns-in-None : goal.returns-in-None
 returns-in-None c =
