@@ -1,5 +1,5 @@
 -- A source has one first fault at most.
-use Rattle.std.proofs.Common.{◌≡◌, ℕ, zero, suc, ◌+◌, List, [], ◌∷◌, ◌++◌, map, length, Option, Some, None, Ok, Err, refl, sym, ◌∙◌, ap, subst}
+use Rattle.std.proofs.Common.{◌≡◌, ℕ, zero, suc, ◌+◌, List, [], ◌∷◌, map, Option, Some, None, Err, refl, sym, ◌∙◌, ap, subst}
 use Rattle.std.specs.Prelude.{slice_get, MatchOption}
 use Rattle.sy_base.specs.Tokens.{PlainToken, AreTokens, TokenFault}
 use Rattle.sy_base.specs.TokenLaws.{TokensAreUnique, FaultIsUnique, TokensExcludeFault}
@@ -22,7 +22,7 @@ use Rattle.outline_reader.proofs.ReadingLemmas.{seen_as}
 use Rattle.outline_reader.proofs.AnswerLemmas.{answer_is_read, read_is_answer}
 use Rattle.outline_reader.proofs.FieldLemmas.{placeless, all_placeless}
 use Rattle.sy_base.specs.declared.fault.Code.{Code}
-use Rattle.sy_base.specs.declared.fault.Code.TheVariants as code
+use Rattle.sy_base.specs.declared.fault.Code.TheVariants as variant
 use Rattle.proof_check.specs.Faults.{IsToldAt, IsToldOn, IsOutlineTold, IsFirstFault, of_tokens, of_outline, fault_place, fault_code, fault_lines, IsFaultText, HasNoFaultYet}
 
 -- ---- the answer of an outline does not depend on where the tokens lie
@@ -99,19 +99,19 @@ one_fault tokens others fault other same is other_is =
 abbrev AreSame : ℕ → ℕ → (spelling others detail others_detail : List ℕ) → Type 0
 AreSame line other spelling others detail others_detail = (line ≡ other) × (spelling ≡ others) × (detail ≡ others_detail)
 
-same_at : (source : List ℕ) (place : ℕ) (kind : Code) (line other : ℕ) (spelling others detail others_detail : List ℕ) →
-    IsToldAt source place kind line spelling detail → IsToldAt source place kind other others others_detail → AreSame line other spelling others detail others_detail
-same_at source place kind line other spelling others detail others_detail one two =
+same_at : (source : List ℕ) (place : ℕ) (code : Code) (line other : ℕ) (spelling others detail others_detail : List ℕ) →
+    IsToldAt source place code line spelling detail → IsToldAt source place code other others others_detail → AreSame line other spelling others detail others_detail
+same_at source place code line other spelling others detail others_detail one two =
     (one.line_is ∙ sym two.line_is, one.code_is ∙ sym two.code_is, one.detail_is ∙ sym two.detail_is)
 
-same_on : (at : ℕ) (kind : Code) (words : List ℕ) (line other : ℕ) (spelling others detail others_detail : List ℕ) →
-    IsToldOn at kind words line spelling detail → IsToldOn at kind words other others others_detail → AreSame line other spelling others detail others_detail
-same_on at kind words line other spelling others detail others_detail one two =
+same_on : (at : ℕ) (code : Code) (words : List ℕ) (line other : ℕ) (spelling others detail others_detail : List ℕ) →
+    IsToldOn at code words line spelling detail → IsToldOn at code words other others others_detail → AreSame line other spelling others detail others_detail
+same_on at code words line other spelling others detail others_detail one two =
     (one.line_is ∙ sym two.line_is, one.code_is ∙ sym two.code_is, one.detail_is ∙ sym two.detail_is)
 
 same_unexpected : (found : Option PlainToken) (line other : ℕ) (spelling others detail others_detail : List ℕ) →
-    MatchOption found ⊥ (λ token. IsToldOn token.line code.Unexpected token.text line spelling detail) →
-    MatchOption found ⊥ (λ token. IsToldOn token.line code.Unexpected token.text other others others_detail) → AreSame line other spelling others detail others_detail
+    MatchOption found ⊥ (λ token. IsToldOn token.line variant.Unexpected token.text line spelling detail) →
+    MatchOption found ⊥ (λ token. IsToldOn token.line variant.Unexpected token.text other others others_detail) → AreSame line other spelling others detail others_detail
 same_unexpected None line other spelling others detail others_detail one two = absurd one
 same_unexpected (Some token) line other spelling others detail others_detail one two = same_on _ _ _ _ _ _ _ _ _ one two
 

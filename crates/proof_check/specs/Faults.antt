@@ -1,11 +1,11 @@
--- The first fault of the tokens or the outline of a file, and the lines that tell it. To be held against docs/faults.md, and 'Tokens' and
--- 'Outline' of docs/notation.md.
+-- The first fault of the tokens or the outline of a file, and the lines that tell it. To be held against 'Tokens' and 'Outline' of
+-- docs/notation.md.
 use Rattle.std.specs.Prelude.{◌≡◌, ℕ, ◌+◌, ◌==◌, List, [], ◌∷◌, ◌++◌, codes, decimal, count_by, take, map, slice_get, MatchOption}
 use Rattle.sy_base.specs.CodeName.{code_name}
 use Rattle.sy_base.specs.SourceLine.{source_line}
 use Rattle.sy_base.specs.Tokens.{PlainToken, AreTokens, TokenFault, HasFault, not_utf8, open_comment, open_quote}
 use Rattle.sy_base.specs.declared.fault.Code.{Code}
-use Rattle.sy_base.specs.declared.fault.Code.TheVariants as code
+use Rattle.sy_base.specs.declared.fault.Code.TheVariants as variant
 use Rattle.proof_lexer.specs.View.{token_view}
 use Rattle.proof_lexer.specs.declared.token.Token.{Token}
 use Rattle.outline_reader.specs.declared.fault.Part.{Part}
@@ -51,29 +51,29 @@ fault_place (open_comment place) = place
 fault_place (open_quote place) = place
 
 abbrev pub fault_code : TokenFault → Code
-fault_code (not_utf8 place) = code.NotUtf8
-fault_code (open_comment place) = code.OpenComment
-fault_code (open_quote place) = code.OpenQuote
+fault_code (not_utf8 place) = variant.NotUtf8
+fault_code (open_comment place) = variant.OpenComment
+fault_code (open_quote place) = variant.OpenQuote
 
 -- A fault at a place is told with the line of the place, its code and the place in decimal.
-pub record IsToldAt (source : List ℕ) (place : ℕ) (kind : Code) (line : ℕ) (spelling detail : List ℕ) : Type 0 where
+pub record IsToldAt (source : List ℕ) (place : ℕ) (code : Code) (line : ℕ) (spelling detail : List ℕ) : Type 0 where
   pub line_is : line ≡ line_of_place source place
-  pub code_is : spelling ≡ code_name kind
+  pub code_is : spelling ≡ code_name code
   pub detail_is : detail ≡ decimal place
 
 -- A fault on a line is told with the line, its code and this detail.
-pub record IsToldOn (at : ℕ) (kind : Code) (words : List ℕ) (line : ℕ) (spelling detail : List ℕ) : Type 0 where
+pub record IsToldOn (at : ℕ) (code : Code) (words : List ℕ) (line : ℕ) (spelling detail : List ℕ) : Type 0 where
   pub line_is : line ≡ at
-  pub code_is : spelling ≡ code_name kind
+  pub code_is : spelling ≡ code_name code
   pub detail_is : detail ≡ words
 
 -- A fault of the outline of these tokens is told with the line and the text of the token at which no outline goes on, or with the line and
 -- the words of the part or the limit.
 abbrev pub IsOutlineTold : List PlainToken → OutlineFault → (line : ℕ) → (spelling detail : List ℕ) → Type 0
 IsOutlineTold tokens (Unexpected place) line spelling detail =
-    MatchOption (slice_get tokens place) ⊥ (λ token. IsToldOn token.line code.Unexpected token.text line spelling detail)
-IsOutlineTold tokens (MissingEnd at part) line spelling detail = IsToldOn at code.MissingEnd (part_words part) line spelling detail
-IsOutlineTold tokens (TooMany at limit) line spelling detail = IsToldOn at code.TooMany (limit_word limit) line spelling detail
+    MatchOption (slice_get tokens place) ⊥ (λ token. IsToldOn token.line variant.Unexpected token.text line spelling detail)
+IsOutlineTold tokens (MissingEnd at part) line spelling detail = IsToldOn at variant.MissingEnd (part_words part) line spelling detail
+IsOutlineTold tokens (TooMany at limit) line spelling detail = IsToldOn at variant.TooMany (limit_word limit) line spelling detail
 IsOutlineTold tokens NoMemory line spelling detail = ⊥
 
 -- The first fault of the tokens or the outline of a source, with its line, the spelling of its code and its detail: the fault of a source

@@ -55,7 +55,10 @@ fn fault_lines(alloc: Global, source: &[u8], fault: &Fault) -> Result<Vec<u8>, N
     Ok(text)
 }
 
-/// The two lines that tell the first fault of the tokens or the outline of a file, or none where it has neither.
+/// The two lines that tell the first fault of the tokens or the outline of a file, or none where it has neither: 'Tokens' and 'Outline' of
+/// docs/notation.md.
+///
+/// They are `line n: Code: detail` and line n of the file without its own ending, each with a line feed.
 pub fn fault_text(alloc: Global, source: &[u8]) -> Result<Option<Vec<u8>>, NoMemory>
     requires { length source.now < 2 ^ 32 - 1 }
     ensures { IfOk result (λ found. MatchOption found ((text : List ℕ) → IsFaultText source.now text → ⊥)
