@@ -9,3 +9,4 @@ mod FileLemmas
 mod ProvableLemmas
 mod RightFiles
 mod LeadsLemmas
+mod FaultLemmas

@@ -1,4 +1,5 @@
 pub mod Cited
+pub mod Faults
 pub mod File
 pub mod Finding
 pub mod Plain

@@ -2,6 +2,7 @@
 #![tactic(auto)]
 
 mod cited;
+mod faults;
 mod file;
 mod forms;
 mod names;
@@ -10,6 +11,8 @@ mod proofs;
 mod scope;
 mod spelling;
 mod step;
+mod telling;
 
 pub use file::accept_file;
 pub use proofs::steps_of;
+pub use telling::fault_text;
