@@ -1,4 +1,4 @@
--- The first fault of the tokens or the outline of a file, and the lines that tell it. To be held against 'Tokens' and 'Outline' of
+-- The first fault of the tokens or the outline of a file, and the lines that tell it. To be held against 'Faults' of
 -- docs/notation.md.
 use Rattle.std.specs.Prelude.{◌≡◌, ℕ, ◌+◌, ◌==◌, List, [], ◌∷◌, ◌++◌, codes, decimal, count_by, take, map, slice_get, MatchOption}
 use Rattle.sy_base.specs.CodeName.{code_name}
