@@ -2,6 +2,7 @@ pub mod File
 pub mod Names
 pub mod Production
 pub mod Grammar
+pub mod Fault
 pub mod Bare
 pub mod Laws
 pub mod Made
