@@ -10,4 +10,3 @@ pub mod PlainForms
 pub mod Refusing
 pub mod RuleFitting
 pub mod RuleSteps
-pub mod Telling

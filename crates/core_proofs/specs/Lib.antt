@@ -1,4 +1,3 @@
-pub mod Faults
 pub mod FormEquations
 pub mod Kept
 pub mod Laws
