@@ -23,7 +23,7 @@ terminal_is_no_mark token (inr (inr (inr quoted))) mark = let same : 4 ≡ 2 = s
 
 module _ (cats : List Cat) (listed : List (List ℕ)) (apart : AllApart (names cats)) where
   -- no item begins with an opening bracket
-  not_opened : {own words : List (List ℕ)} {tokens : List PlainToken} {items : List Item} → AreItems cats listed own tokens items words → NotOpened tokens
+  pub not_opened : {own words : List (List ℕ)} {tokens : List PlainToken} {items : List Item} → AreItems cats listed own tokens items words → NotOpened tokens
   not_opened no_items = tt
   not_opened (terminal {token = token} is plain more) = terminal_is_no_mark token is.may_be
   not_opened (binder {token = token} kind spells more) = word_is_no_mark token kind

@@ -9,7 +9,7 @@ use Rattle.sy_base.specs.declared.fault.Code.{Code}
 use Rattle.sy_base.specs.declared.fault.Code.TheVariants as code
 use Rattle.outline_reader.specs.Plain.{PlainPortion, terminals, category, judgment_of, theorem_of}
 use Rattle.user_grammar.specs.File.{WrittenCategory, listed, categories, assumed}
-use Rattle.user_grammar.specs.Names.{IsAmong, IsNoSpelling}
+use Rattle.user_grammar.specs.Names.{IsAmong}
 use Rattle.user_grammar.specs.Production.{IsTerminal, IsMark, IsVariable, AreBrackets}
 
 -- exactly one of these is so
@@ -33,13 +33,13 @@ abbrev pub declared_as : Sort → PlainToken → Declared
 declared_as s t = record { sort = s; token = t }
 
 -- the spellings of what is declared: of a terminal only itself
-abbrev pub IsSpelledAs : Declared → List ℕ → Type 0
-IsSpelledAs d word = IsSpelledBy d.sort d.token.text word
-
 abbrev pub IsSpelledBy : Sort → List ℕ → List ℕ → Type 0
 IsSpelledBy a_terminal text word = word ≡ text
 IsSpelledBy a_category text word = IsSpelling text word
 IsSpelledBy a_variable text word = IsSpelling text word
+
+abbrev pub IsSpelledAs : Declared → List ℕ → Type 0
+IsSpelledAs d word = IsSpelledBy d.sort d.token.text word
 
 -- Where a token of a production stands: outside brackets; right behind a slot or its brackets; or in brackets, where a word is expected or
 -- else a comma or the end. With the words that the brackets of the slot have so far.
@@ -199,11 +199,11 @@ module _ (portions : List PlainPortion) where
   IsEntryForm written [] = ⊥
   IsEntryForm written (token ∷ rest) = IsWordOf written token × HasNoBrackets (token ∷ rest) × ExactlyOne IsBinderWord (token ∷ rest)
 
-  -- the category is a slot only at the front of its own productions
+  -- the category is a slot only at the front of its own productions, which are those of the categories with its name
   abbrev pub IsOnlyInFront : WrittenCategory → Type 0
   IsOnlyInFront written =
       (other : WrittenCategory) (form : List PlainToken) (token : PlainToken) → Contains (categories portions) other → Contains other.forms form →
-      (stands : StandsOutside form token) → IsWordOf written token → (other ≡ written) × (stands.stands.front ≡ [])
+      (stands : StandsOutside form token) → IsWordOf written token → (other.name.text ≡ written.name.text) × (stands.stands.front ≡ [])
 
   -- the rule on context categories, in the syntax parts
   pub record IsContextCategory (written : WrittenCategory) : Type 0 where

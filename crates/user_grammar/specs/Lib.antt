@@ -3,7 +3,11 @@ pub mod Names
 pub mod Production
 pub mod Grammar
 pub mod Fault
+pub mod Finding
+pub mod FindingPlaces
+pub mod FindingContexts
 pub mod Bare
 pub mod Laws
 pub mod Made
+pub mod MadeItems
 pub mod Lambda

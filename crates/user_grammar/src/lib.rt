@@ -1,15 +1,32 @@
 //! The signature for which the grammar of a file stands.
 #![tactic(auto)]
 
-mod grammar;
+mod bare_signature;
+mod fault;
+mod fault_assumed;
+mod fault_context;
+mod fault_declared;
+mod fault_form;
+mod fault_found;
+mod fault_front;
+mod fault_lists;
+mod fault_names;
+mod fault_place;
+mod fault_tokens;
 mod laws;
+mod made;
+mod made_forms;
+mod made_productions;
+mod made_tokens;
 mod names;
+mod phase;
 mod portions;
 mod productions;
 mod spelling;
 mod tokens;
 mod worked;
 
-pub use grammar::signature;
-pub use laws::signatures_are_unique;
+pub use bare_signature::signature;
+pub use laws::{faulty_files_have_no_signature, signatures_are_unique};
+pub use phase::grammar;
 pub use worked::lambda_stands_for_its_signature;

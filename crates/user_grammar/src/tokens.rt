@@ -36,7 +36,7 @@ fn may_be_terminal(kind: Kind, text: &[u8]) -> bool
     }
 }
 
-fn is_listed(listed: &[&[u8]], word: &[u8]) -> bool
+pub fn is_listed(listed: &[&[u8]], word: &[u8]) -> bool
     ensures { IsTrue result ↔ IsAmong (map (λ text. text.now) listed.now) word.now }
 {
     for text in listed {
@@ -62,7 +62,7 @@ fn is_known(listed: &[&[u8]], token: &Token<'_>) -> bool
 }
 
 /// Whether a token may be a terminal of a production.
-fn is_terminal(listed: &[&[u8]], token: &Token<'_>) -> bool
+pub fn is_terminal(listed: &[&[u8]], token: &Token<'_>) -> bool
     ensures { IsTrue result ↔ IsTerminal (map (λ text. text.now) listed.now) (token_view token.now) }
 {
     may_be_terminal(token.kind, token.text.as_bytes())
@@ -70,7 +70,7 @@ fn is_terminal(listed: &[&[u8]], token: &Token<'_>) -> bool
         && is_known(listed, token)
 }
 
-fn is_word(token: &Token<'_>) -> bool
+pub fn is_word(token: &Token<'_>) -> bool
     ensures { IsTrue result ↔ (kind_number token.now.kind ≡ 0) }
 {
     token.kind == Kind::Word

@@ -1,0 +1,215 @@
+-- What a signature has of each written category: its number, its productions, and that they fit.
+use Rattle.std.proofs.Common.{◌≡◌, ◌≢◌, ◌<◌, ◌+◌, ℕ, zero, suc, Bool, false, cond, List, [], ◌∷◌, ◌++◌, map, Option, Some, refl, ap, ◌∙◌, sym, subst, inl, inr, slice_get, count_by, arith}
+use Rattle.std.proofs.lemmas.List.{append-nil}
+use Rattle.std.proofs.lemmas.List.Sums.{sum_by-cons, sum_by-append}
+use Rattle.std.specs.Option.{MatchOption}
+use Rattle.std.specs.List.{AllByRecursion, AllZip, Contains}
+use Rattle.sy_base.specs.Tokens.{PlainToken}
+use Rattle.binding_terms.specs.Numbered.{AnyByRecursion, AllNumbered, AreDifferent}
+use Rattle.binding_terms.specs.Signature.{Signature, Place, slots, PlaceFits, ProdFits}
+use Rattle.binding_terms.specs.declared.grammar.Cat.{Cat}
+use Rattle.binding_terms.specs.declared.grammar.Item.TheVariants.{Binder}
+use Rattle.binding_terms.specs.declared.grammar.Prod.{Prod}
+use Rattle.rule_schemes.specs.Reading.{IsSpelling}
+use Rattle.outline_reader.specs.Plain.{PlainPortion}
+use Rattle.user_grammar.specs.File.{WrittenCategory, listed, categories, assumed}
+use Rattle.user_grammar.specs.Names.{category_names}
+use Rattle.user_grammar.specs.Production.{AreItems, no_items, binder, IsVariable}
+use Rattle.user_grammar.specs.Grammar.{IsCategory, AreForms, no_forms, variable, production, AreProductions, IsWritten}
+use Rattle.user_grammar.specs.Fault.{category_texts, IsSlotWord, IsOneSlot}
+use Rattle.user_grammar.proofs.Spellings.{Spells, all_left, all_right}
+use Rattle.user_grammar.proofs.FaultLawsWords.{number_of, SpellsOption, same_names}
+use Rattle.user_grammar.proofs.FaultLawsForms.{IsRead, no_items_left, single_item}
+
+-- ---- lists
+
+pub numbered_at : {A : Type 0} (P : ℕ → A → Type 0) (n : ℕ) (xs : List A) (k : ℕ) (x : A) → AllNumbered P n xs → slice_get xs k ≡ Some x → P (n + k) x
+numbered_at P n [] k x all at = cc
+numbered_at P n (y ∷ ys) zero x all at =
+    let same : y ≡ x = cc in let number : n ≡ n + 0 = omega arith in subst (λ m. P m x) number (subst (P n) same all.0)
+numbered_at P n (y ∷ ys) (suc k) x all at =
+    let number : suc n + k ≡ n + suc k = omega arith in subst (λ m. P m x) number (numbered_at P (suc n) ys k x all.1 at)
+
+pub not_any : {X : Type 0} (P : X → Type 0) (xs : List X) → AnyByRecursion P xs → AllByRecursion (λ x. P x → ⊥) xs → ⊥
+not_any P [] some none = some
+not_any P (x ∷ xs) (inl is) none = none.0 is
+not_any P (x ∷ xs) (inr some) none = not_any P xs some none.1
+
+all_both : {X : Type 0} (P : X → Type 0) (xs ys : List X) → AllByRecursion P xs → AllByRecursion P ys → AllByRecursion P (xs ++ ys)
+all_both P [] ys one other = other
+all_both P (x ∷ xs) ys one other = (one.0, all_both P xs ys one.1 other)
+
+all_further : {X : Type 0} (P Q : X → Type 0) (xs : List X) → ((x : X) → P x → Q x) → AllByRecursion P xs → AllByRecursion Q xs
+all_further P Q [] step all = tt
+all_further P Q (x ∷ xs) step all = (step x all.0, all_further P Q xs step all.1)
+
+none_counted : {X : Type 0} (test : X → Bool) (xs : List X) → AllByRecursion (λ x. test x ≡ false) xs → count_by test xs ≡ 0
+none_counted test [] none = refl
+none_counted test (x ∷ xs) none =
+    let rest : count_by test xs ≡ 0 = none_counted test xs none.1 in
+    let sum : 0 + count_by test xs ≡ 0 = omega (arith, rest) in
+    sum_by-cons (λ y. cond (test y) 1 0) x xs ∙ ap (λ b. cond b 1 0 + count_by test xs) none.0 ∙ sum
+
+counted_behind : {X : Type 0} (test : X → Bool) (xs ys : List X) → AllByRecursion (λ x. test x ≡ false) xs → count_by test (xs ++ ys) ≡ count_by test ys
+counted_behind test xs ys none =
+    let sum : 0 + count_by test ys ≡ count_by test ys = omega arith in
+    sum_by-append (λ y. cond (test y) 1 0) xs ys ∙ ap (λ n. n + count_by test ys) (none_counted test xs none) ∙ sum
+
+counted_before : {X : Type 0} (test : X → Bool) (xs ys : List X) → AllByRecursion (λ x. test x ≡ false) ys → count_by test (xs ++ ys) ≡ count_by test xs
+counted_before test xs ys none =
+    let sum : count_by test xs + 0 ≡ count_by test xs = omega arith in
+    sum_by-append (λ y. cond (test y) 1 0) xs ys ∙ ap (λ n. count_by test xs + n) (none_counted test ys none) ∙ sum
+
+pub own_spelling : (name : List ℕ) → IsSpelling name name
+own_spelling name = ([], sym (append-nil name), tt)
+
+-- ---- the numbers of productions
+
+numbered : {cats : List Cat} {texts : List (List ℕ)} {c : ℕ} {var : Option (List ℕ)} {forms : List (List PlainToken)} {prods : List Prod}
+    → AreForms cats texts c var forms prods → AllByRecursion (λ p. p.cat.0 ≡ c) prods
+numbered no_forms = tt
+numbered (variable is more) = numbered more
+numbered (production not made more) = (made.cat, numbered more)
+
+later : (cats : List Cat) (texts : List (List ℕ)) (n m : ℕ) (written : List WrittenCategory) (vars : List (Option (List ℕ))) (prods : List Prod) → n < m
+    → AreProductions cats texts m written vars prods → AllByRecursion (λ p. p.cat.0 ≢ n) prods
+later cats texts n m [] [] prods less made = subst (AllByRecursion (λ p. p.cat.0 ≢ n)) (sym made) tt
+later cats texts n m [] (v ∷ vars) prods less made = absurd made
+later cats texts n m (w ∷ written) [] prods less made = absurd made
+later cats texts n m (w ∷ written) (v ∷ vars) prods less made =
+    let first = all_further (λ p. p.cat.0 ≡ m) (λ p. p.cat.0 ≢ n) made.0 (λ p is same. (let both : m ≡ n = sym is ∙ same in omega (arith, both, less))) (numbered made.3) in
+    let rest = later cats texts n (suc m) written vars made.1 (omega (arith, less)) made.4 in
+    subst (AllByRecursion (λ p. p.cat.0 ≢ n)) (sym made.2) (all_both (λ p. p.cat.0 ≢ n) made.0 made.1 first rest)
+
+-- ---- one written category
+
+module _ (portions : List PlainPortion) (sig : Signature) (file : IsWritten portions sig) where
+  record IsPart (n : ℕ) (own : List Cat) (prods : List Prod) (k : ℕ) (written : WrittenCategory) : Type 0 where
+    cat : Cat
+    at : slice_get own k ≡ Some cat
+    is : IsCategory (assumed portions) written cat
+    made : List Prod
+    forms : AreForms sig.cats (listed portions) (n + k) cat.var written.forms made
+    fit : AllByRecursion (ProdFits sig) made
+    counted : (test : Prod → Bool) → ((p : Prod) → p.cat.0 ≢ n + k → test p ≡ false) → count_by test prods ≡ count_by test made
+
+  part : (n : ℕ) (ws : List WrittenCategory) (own : List Cat) (prods : List Prod) (k : ℕ) (written : WrittenCategory)
+      → AllZip (IsCategory (assumed portions)) ws own → AreProductions sig.cats (listed portions) n ws (map (λ cat. cat.var) own) prods
+      → AllByRecursion (ProdFits sig) prods → slice_get ws k ≡ Some written → IsPart n own prods k written
+  part n [] own prods k written zip made fit at = cc
+  part n (w ∷ ws) [] prods k written zip made fit at = absurd zip
+  part n (w ∷ ws) (cat ∷ own) prods zero written zip made fit at =
+      let same : w ≡ written = cc in
+      let number : n ≡ n + 0 = omega arith in
+      let all = subst (AllByRecursion (ProdFits sig)) made.2 fit in
+      let others = later sig.cats (listed portions) n (suc n) ws (map (λ cat. cat.var) own) made.1 (omega arith) made.4 in
+      record {
+        cat = cat;
+        at = refl;
+        is = subst (λ w. IsCategory (assumed portions) w cat) same zip.0;
+        made = made.0;
+        forms = subst (λ m. AreForms sig.cats (listed portions) m cat.var written.forms made.0) number
+            (subst (λ w. AreForms sig.cats (listed portions) n cat.var w.forms made.0) same made.3);
+        fit = all_left (ProdFits sig) made.0 made.1 all;
+        counted = λ test fails. (
+            let none = all_further (λ p. p.cat.0 ≢ n) (λ p. test p ≡ false) made.1 (λ p differs. fails p (subst (λ m. p.cat.0 ≢ m) number differs)) others in
+            ap (count_by test) made.2 ∙ counted_before test made.0 made.1 none);
+      }
+  part n (w ∷ ws) (cat ∷ own) prods (suc k) written zip made fit at =
+      let all = subst (AllByRecursion (ProdFits sig)) made.2 fit in
+      let more = part (suc n) ws own made.1 k written zip.1 made.4 (all_right (ProdFits sig) made.0 made.1 all) at in
+      let number : suc n + k ≡ n + suc k = omega arith in
+      record {
+        cat = more.cat;
+        at = more.at;
+        is = more.is;
+        made = more.made;
+        forms = subst (λ m. AreForms sig.cats (listed portions) m more.cat.var written.forms more.made) number more.forms;
+        fit = more.fit;
+        counted = λ test fails. (
+            let none = all_further (λ p. p.cat.0 ≡ n) (λ p. test p ≡ false) made.0
+            (λ p is. fails p (λ same. (let both : n ≡ n + suc k = sym is ∙ same in omega (arith, both)))) (numbered made.3) in
+            ap (count_by test) made.2 ∙ counted_behind test made.0 made.1 none
+            ∙ more.counted test (λ p differs. fails p (subst (λ m. p.cat.0 ≢ m) number differs)));
+      }
+
+  pub record IsFound (written : WrittenCategory) : Type 0 where
+    pub number : ℕ
+    pub there : slice_get (categories portions) number ≡ Some written
+    pub cat : Cat
+    pub at : slice_get sig.cats number ≡ Some cat
+    pub is : IsCategory (assumed portions) written cat
+    pub made : List Prod
+    pub forms : AreForms sig.cats (listed portions) number cat.var written.forms made
+    pub fit : AllByRecursion (ProdFits sig) made
+    pub counted : (test : Prod → Bool) → ((p : Prod) → p.cat.0 ≢ number → test p ≡ false) → count_by test sig.prods ≡ count_by test made
+
+  pub found : (written : WrittenCategory) → AllByRecursion (ProdFits sig) sig.prods → Contains (categories portions) written → IsFound written
+  found written fit at =
+      let n = number_of (categories portions) written at in
+      let own = part 0 (categories portions) sig.cats sig.prods n.0 written file.cats file.prods fit n.1 in
+      let number : 0 + n.0 ≡ n.0 = omega arith in
+      record {
+        number = n.0;
+        there = n.1;
+        cat = own.cat;
+        at = own.at;
+        is = own.is;
+        made = own.made;
+        forms = subst (λ m. AreForms sig.cats (listed portions) m own.cat.var written.forms own.made) number own.forms;
+        fit = own.fit;
+        counted = λ test fails. own.counted test (λ p differs. fails p (subst (λ m. p.cat.0 ≢ m) number differs));
+      }
+
+  -- its variable is the category's
+  pub own_variable : (written : WrittenCategory) (is : IsFound written) (word : List ℕ) → SpellsOption word is.cat.var → Spells sig.cats is.number word
+  own_variable written is word spells =
+      subst (λ (o : Option Cat). MatchOption o ⊥ (λ cat. MatchOption cat.var ⊥ (λ name. IsSpelling name word))) (sym is.at) spells
+
+  -- ---- the forms of a category
+
+  binds_differ : (p : Prod) (places : List Place) → AllByRecursion (PlaceFits sig p) places → AllByRecursion (λ s. AreDifferent s.binds) places
+  binds_differ p [] fit = tt
+  binds_differ p (s ∷ places) fit = (fit.0.different, binds_differ p places fit.1)
+
+  pub variable_items : {c : ℕ} (token : PlainToken) → token.kind ≡ 0 → Spells sig.cats c token.text
+      → AreItems sig.cats (listed portions) (token.text ∷ []) (token ∷ []) (Binder (record { 0 = c }) ∷ []) (token.text ∷ [])
+  variable_items token kind spells = binder kind spells no_items
+
+  pub all_read : {c : ℕ} {var : Option (List ℕ)} {forms : List (List PlainToken)} {prods : List Prod} → AreForms sig.cats (listed portions) c var forms prods
+      → AllByRecursion (ProdFits sig) prods → ((word : List ℕ) → SpellsOption word var → Spells sig.cats c word) → AllByRecursion (IsRead portions sig file) forms
+  all_read no_forms fit spells = tt
+  all_read {c = c} (variable {token = token} is more) fit spells = (
+    record {
+      items = Binder (record { 0 = c }) ∷ [];
+      own = token.text ∷ [];
+      read = variable_items token is.0 (spells token.text (own_spelling token.text));
+      different = (tt, tt);
+      binds = tt;
+    },
+    all_read more fit (λ word never. absurd never),
+  )
+  all_read (production {prod = prod} not made more) fit spells = (
+    record { items = prod.items; own = made.words; read = made.items; different = made.different; binds = binds_differ prod (slots prod.items) fit.0.places },
+    all_read more fit.1 spells,
+  )
+
+  pub all_some : {c : ℕ} {var : Option (List ℕ)} {forms : List (List PlainToken)} {prods : List Prod} → AreForms sig.cats (listed portions) c var forms prods
+      → AllByRecursion (ProdFits sig) prods → AllByRecursion (λ form. form ≢ []) forms
+  all_some no_forms fit = tt
+  all_some (variable {token = token} is more) fit = ((λ same. (let never : ◌≡◌ {A = List PlainToken} (token ∷ []) [] = same in cc)), all_some more fit)
+  all_some {c = c} (production {form = form} {prod = prod} not made more) fit = (
+    (λ same. fit.0.some_item (no_items_left portions sig file (subst (λ ts. AreItems sig.cats (listed portions) made.words ts prod.items made.words) same made.items))),
+    all_some more fit.1,
+  )
+
+  variable_is_no_slot : (token : PlainToken) → IsVariable (category_names sig.cats) (listed portions) (token ∷ []) → IsSlotWord portions token → ⊥
+  variable_is_no_slot token is slot =
+      not_any (λ name. IsSpelling name token.text) (category_texts portions) slot.1
+      (subst (AllByRecursion (λ name. IsSpelling name token.text → ⊥)) (same_names portions sig file) is.3)
+
+  pub all_more : {c : ℕ} {var : Option (List ℕ)} {forms : List (List PlainToken)} {prods : List Prod} → AreForms sig.cats (listed portions) c var forms prods
+      → AllByRecursion (ProdFits sig) prods → AllByRecursion (λ form. IsOneSlot portions form → ⊥) forms
+  all_more no_forms fit = tt
+  all_more (variable {token = token} is more) fit = ((λ one. variable_is_no_slot token is one.0), all_more more fit)
+  all_more (production made_not made more) fit = ((λ one. fit.0.not_single (single_item portions sig file made.items one)), all_more more fit.1)

@@ -1,0 +1,8 @@
+use Rattle.std.proofs.Common.{map, take}
+use Rattle.outline_reader.specs.Plain.{plain_form}
+use Rattle.user_grammar.specs.Finding.{IsLeast, OfSome, SingleOf, portions_of}
+use Rattle.user_grammar.proofs.fault_form.first_single.Given as goal
+
+abbrev pub invariant-loop-form : goal.invariant-loop-form
+invariant-loop-form l =
+    IsLeast (OfSome (SingleOf (portions_of l.lists) l.written.name.now.text.now) (map plain_form (map (λ form. form.now) (take l.form-index l.written.forms.now)))) l.found

@@ -1,0 +1,10 @@
+use Rattle.std.proofs.Common.{◌↔◌, map, drop}
+use Rattle.binding_terms.specs.Numbered.{AnyByRecursion}
+use Rattle.proof_lexer.specs.View.{token_view}
+use Rattle.rule_schemes.specs.Reading.{IsSpelling}
+use Rattle.user_grammar.proofs.fault_names.is_spelling_of_one.Given as goal
+
+abbrev pub invariant-loop-name : goal.invariant-loop-name
+invariant-loop-name l =
+    AnyByRecursion (λ token. IsSpelling token.text l.word) (map (λ name. token_view name.now) (drop l.name-index l.variables))
+    ↔ AnyByRecursion (λ token. IsSpelling token.text l.word) (map (λ name. token_view name.now) l.variables)

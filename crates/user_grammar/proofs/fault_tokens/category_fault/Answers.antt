@@ -1,0 +1,16 @@
+use Rattle.std.proofs.Common.{map}
+use Rattle.outline_reader.specs.Plain.{plain_form}
+use Rattle.user_grammar.specs.Finding.{IsLeast, OfSome, portions_of}
+use Rattle.user_grammar.specs.FindingPlaces.{TokensOf}
+use Rattle.user_grammar.proofs.FaultLeast.{whole, least_more_seen}
+use Rattle.user_grammar.proofs.fault_tokens.category_fault.Goals as goal
+
+pub loop-form-preserved : goal.loop-form-preserved
+loop-form-preserved c =
+    least_more_seen plain_form (λ form. form.now) (TokensOf (portions_of c.args.names.now.lists)) c.args.written.now.forms.now c.loop-form.form-index _
+    c.loop-form.found c.in_ok-one.one c.earlier-found.result c.loop-form-test.true c.earlier-found.ensures c.loop-form.invariant c.in_ok-one.ensures
+
+pub returns : goal.returns
+returns c =
+    whole (λ fs. IsLeast (OfSome (TokensOf (portions_of c.args.names.now.lists)) (map plain_form (map (λ form. form.now) fs))) c.loop-form.found)
+    c.args.written.now.forms.now c.loop-form.form-index c.loop-form-test.false c.loop-form.invariant

@@ -1,0 +1,225 @@
+// Words that are declared a second time.
+ghost use Rattle.std.specs.Prelude.{◌≡◌, ◌↔◌, ◌++◌, ◌∷◌, [], List, IsTrue, IfOk, OnOk, map};
+ghost use Rattle.binding_terms.specs.Numbered.{AnyByRecursion};
+ghost use Rattle.sy_base.specs.declared.fault.Code.TheVariants.{Duplicate};
+ghost use Rattle.proof_lexer.specs.View.{token_view};
+ghost use Rattle.outline_reader.specs.Plain.{category, plain_form, plain_portion};
+ghost use Rattle.outline_reader.specs.Views.{portion_view};
+ghost use Rattle.user_grammar.specs.File.{categories};
+ghost use Rattle.user_grammar.specs.Fault.{Declared, DeclareAll, DeclaresHere, IsDuplicate, IsSpelledAs, a_terminal, a_variable, declared_as};
+ghost use Rattle.user_grammar.specs.Finding.{
+  AreLists,
+  AtToken,
+  HaveCommon,
+  IsCommon,
+  IsLeast,
+  IsOneToken,
+  IsSecond,
+  OfSome,
+  declaration_view,
+  portions_of,
+  written_view,
+};
+
+use crate::fault_found::{Found, at_token, earlier};
+use crate::fault_lists::Lists;
+use crate::fault_names::variables;
+use crate::names::is_same;
+use crate::spelling::is_spelling;
+use binding_terms::NoMemory;
+use outline_reader::{Form, Name, Portion};
+use proof_lexer::Token;
+use std::alloc::Global;
+use sy_base::Code;
+
+/// How a word is declared.
+#[derive(Clone, Copy)]
+pub enum Means {
+    Terminal,
+    Category,
+    Variable,
+}
+
+/// A token by which a word is declared.
+#[derive(Clone, Copy)]
+pub struct Declaration<'a> {
+    pub means: Means,
+    pub token: Name<'a>,
+}
+
+fn declare_tokens<'a>(
+    tokens: &'a [Token<'a>],
+    all: &mut Vec<Declaration<'a>>,
+) -> Result<(), NoMemory>
+    ensures { OnOk result (map declaration_view all.new.items
+        ≡ map declaration_view all.old.items ++ map (declared_as a_terminal) (plain_form tokens.now)) }
+{
+    for token in tokens {
+        all.push(Declaration {
+            means: Means::Terminal,
+            token,
+        })?;
+    }
+    Ok(())
+}
+
+fn declare_variables<'a>(names: &[Name<'a>], all: &mut Vec<Declaration<'a>>) -> Result<(), NoMemory>
+    ensures { OnOk result (map declaration_view all.new.items
+        ≡ map declaration_view all.old.items ++ map (declared_as a_variable) (map (λ name. token_view name.now) names.now)) }
+{
+    for name in names {
+        all.push(Declaration {
+            means: Means::Variable,
+            token: name,
+        })?;
+    }
+    Ok(())
+}
+
+fn declare_category<'a>(
+    alloc: Global,
+    lists: &Lists<'_>,
+    name: Name<'a>,
+    forms: &[Form<'a>],
+    all: &mut Vec<Declaration<'a>>,
+) -> Result<(), NoMemory>
+    requires { AreLists lists.now }
+    ensures { OnOk result ((own : List Declared) × (map declaration_view all.new.items ≡ map declaration_view all.old.items ++ own)
+        × DeclaresHere (portions_of lists.now) (category (token_view name.now) (map plain_form (map (λ form. form.now) forms.now))) own) }
+{
+    let own = variables(alloc, lists, forms)?;
+    all.push(Declaration {
+        means: Means::Category,
+        token: name,
+    })?;
+    declare_variables(own.as_slice(), all)
+}
+
+fn declare<'a>(
+    alloc: Global,
+    lists: &Lists<'_>,
+    portion: &'a Portion<'a>,
+    all: &mut Vec<Declaration<'a>>,
+) -> Result<(), NoMemory>
+    requires { AreLists lists.now }
+    ensures { OnOk result ((own : List Declared) × (map declaration_view all.new.items ≡ map declaration_view all.old.items ++ own)
+        × DeclaresHere (portions_of lists.now) (plain_portion (portion_view portion.now)) own) }
+{
+    match portion {
+        Portion::Terminals { items, .. } => declare_tokens(items, all),
+        Portion::Category { name, productions } => {
+            declare_category(alloc, lists, name, productions.as_slice(), all)
+        }
+        _ => Ok(()),
+    }
+}
+
+/// What the portions declare, in text order.
+fn declarations<'a>(alloc: Global, lists: &Lists<'a>) -> Result<Vec<Declaration<'a>>, NoMemory>
+    requires { AreLists lists.now }
+    ensures { IfOk result (λ all. DeclareAll (portions_of lists.now) (portions_of lists.now) (map declaration_view all.items)) }
+{
+    let mut all = Vec::new(alloc);
+    for portion in lists.portions {
+        declare(alloc, lists, portion, &mut all)?;
+    }
+    Ok(all)
+}
+
+/// Whether a word is a spelling of what is declared.
+fn is_spelled_as(declaration: &Declaration<'_>, word: &[u8]) -> bool
+    ensures { IsTrue result ↔ IsSpelledAs (declaration_view declaration.now) word.now }
+{
+    match declaration.means {
+        Means::Terminal => is_same(word, declaration.token.text.as_bytes()),
+        Means::Category => is_spelling(declaration.token.text.as_bytes(), word),
+        Means::Variable => is_spelling(declaration.token.text.as_bytes(), word),
+    }
+}
+
+/// Whether two declared words have a common spelling.
+fn have_common(one: &Declaration<'_>, other: &Declaration<'_>) -> bool
+    ensures { IsTrue result ↔ HaveCommon (declaration_view one.now) (declaration_view other.now) }
+{
+    if is_spelled_as(one, other.token.text.as_bytes()) {
+        return true;
+    }
+    is_spelled_as(other, one.token.text.as_bytes())
+}
+
+fn has_common(before: &[Declaration<'_>], declaration: &Declaration<'_>) -> bool
+    ensures { IsTrue result ↔ AnyByRecursion (λ earlier. HaveCommon earlier (declaration_view declaration.now))
+        (map declaration_view before.now) }
+{
+    for earlier in before {
+        if have_common(earlier, declaration) {
+            return true;
+        }
+    }
+    false
+}
+
+/// The first word that has a common spelling with one that is declared before it.
+fn first_common<'a>(all: &[Declaration<'a>]) -> Option<Found<'a>>
+    ensures { IsLeast (AtToken Duplicate (IsCommon (map declaration_view all.now))) result }
+{
+    let mut found = None;
+    for (number, declaration) in all.iter().enumerate() {
+        if has_common(&all[..number], declaration) {
+            found = earlier(found, Some(at_token(Code::Duplicate, declaration.token)));
+        }
+    }
+    found
+}
+
+/// The first of some tokens, with a code.
+fn first_token<'a>(code: Code, names: &[Name<'a>]) -> Option<Found<'a>>
+    ensures { IsLeast (AtToken code (IsOneToken (map (λ name. token_view name.now) names.now))) result }
+{
+    let mut found = None;
+    for name in names {
+        found = earlier(found, Some(at_token(code, name)));
+    }
+    found
+}
+
+/// The first variable of a category but one.
+fn second_variable<'a>(
+    alloc: Global,
+    lists: &Lists<'_>,
+    forms: &[Form<'a>],
+) -> Result<Option<Found<'a>>, NoMemory>
+    requires { AreLists lists.now }
+    ensures { IfOk result (IsLeast (AtToken Duplicate
+        (IsSecond (portions_of lists.now) (map plain_form (map (λ form. form.now) forms.now))))) }
+{
+    let own = variables(alloc, lists, forms)?;
+    if let [_, others @ ..] = own.as_slice() {
+        return Ok(first_token(Code::Duplicate, others));
+    }
+    Ok(None)
+}
+
+fn first_second<'a>(alloc: Global, lists: &Lists<'a>) -> Result<Option<Found<'a>>, NoMemory>
+    requires { AreLists lists.now }
+    ensures { IfOk result (IsLeast (OfSome (λ written. AtToken Duplicate (IsSecond (portions_of lists.now) written.forms))
+        (map written_view lists.now.categories.now))) }
+{
+    let mut found = None;
+    for written in lists.categories {
+        let one = second_variable(alloc, lists, written.forms)?;
+        found = earlier(found, one);
+    }
+    Ok(found)
+}
+
+/// The first word that is declared a second time.
+pub fn first_duplicate<'a>(alloc: Global, lists: &Lists<'a>) -> Result<Option<Found<'a>>, NoMemory>
+    requires { AreLists lists.now }
+    ensures { IfOk result (IsLeast (AtToken Duplicate (IsDuplicate (portions_of lists.now)))) }
+{
+    let all = declarations(alloc, lists)?;
+    let common = first_common(all.as_slice());
+    let second = first_second(alloc, lists)?;
+    Ok(earlier(common, second))
+}
