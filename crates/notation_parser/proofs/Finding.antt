@@ -1,6 +1,7 @@
 -- The first two of what has a property, put together.
 use Rattle.std.proofs.Common.{◌≡◌, ◌≢◌, ◌⊎◌, ◌↔◌, List, [], ◌∷◌, map, inl, inr, refl, ap, ◌∙◌, sym, subst}
 use Rattle.notation_parser.specs.Firsts.{listed, IsLeast, AreFirst, AreJoined, paired, IsFull}
+use Rattle.notation_parser.specs.Splitting.{IsMapped}
 use Rattle.notation_parser.specs.declared.firsts.Firsts.{Firsts}
 use Rattle.notation_parser.specs.declared.firsts.Firsts.TheVariants.{Nothing, One, Two}
 
@@ -83,10 +84,6 @@ module _ {K A : Type 0} (Before : K → K → Type 0) where
       another : {l : K} {x : A} → x ≢ f a → P l x ⊎ Q l x → Before k.1.0 l ⊎ ((k.1.0 ≡ l) × (x ≡ f b))
       another {l} {x} ne (inl p) = k.1.1.1 l x (p, ne)
       another {l} {x} ne (inr q) = inl (apart k.1.0 l (f b) x k.1.1.0.0 q)
-
--- what is made of each, at the place that is made of its own
-abbrev pub IsMapped : {K L A B : Type 0} → (K → L) → (A → B) → (K → A → Type 0) → L → B → Type 0
-IsMapped {K} {L} {A} {B} g f P l y = (k : K) × (x : A) × (l ≡ g k) × (y ≡ f x) × P k x
 
 pub AreFirst-map : {K L A B : Type 0} (BeforeK : K → K → Type 0) (BeforeL : L → L → Type 0) (g : K → L) (f : A → B) (P : K → A → Type 0) (xs : List A)
     → ((k l : K) → BeforeK k l → BeforeL (g k) (g l)) → ((k l : K) (a b : A) → P k a → P l b → f a ≡ f b → a ≡ b) → AreFirst BeforeK P xs

@@ -1,5 +1,5 @@
 -- What the answer to a reading says. Held against docs/notation.md on readings.
-use Rattle.std.specs.Prelude.{◌≡◌, ◌≢◌, ◌<◌, ◌≤◌, List, [], ◌∷◌, length, map}
+use Rattle.std.specs.Prelude.{◌≡◌, ◌<◌, ◌≤◌, List, [], ◌∷◌, length, map}
 use Rattle.scheme_terms.specs.View.{known_variable}
 use Rattle.binding_terms.specs.Signature.{Signature}
 use Rattle.rule_schemes.specs.Reading.{Token, ReadingScope}

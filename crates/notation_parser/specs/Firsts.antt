@@ -1,8 +1,6 @@
 -- The first two things that have a property in an order, or fewer where there are fewer.
-use Rattle.std.specs.Prelude.{◌≡◌, ◌≢◌, ◌⊎◌, ℕ, List, [], ◌∷◌, map, reverse}
-use Rattle.scheme_terms.specs.SchemeTree.{SchemeTree, Parts, part}
-use Rattle.scheme_terms.specs.View.{parts_of, scheme_part}
-use Rattle.scheme_terms.specs.declared.scheme.SArg.{SArg}
+use Rattle.std.specs.Prelude.{◌≡◌, ◌≢◌, ◌⊎◌, ℕ, List, [], ◌∷◌}
+use Rattle.scheme_terms.specs.SchemeTree.{SchemeTree, Parts, no_parts, part}
 use Rattle.notation_parser.specs.declared.firsts.Firsts.{Firsts}
 use Rattle.notation_parser.specs.declared.firsts.Firsts.TheVariants.{Nothing, One, Two}
 
@@ -44,10 +42,7 @@ abbrev pub IsFull : {A : Type 0} → Firsts A → Type 0
 IsFull (Two a b) = Unit {0}
 IsFull _ = ⊥
 
--- parts that are kept the last one first
-abbrev pub backwards : List SArg → Parts
-backwards xs = parts_of (reverse (map scheme_part xs))
-
--- a part before others, as these are kept
-abbrev pub part_after : ℕ → SchemeTree → Parts → Parts
-part_after n s xs = part n s xs
+-- parts with one more at the end
+abbrev pub with_last : ℕ → Parts → SchemeTree → Parts
+with_last n no_parts s = part n s no_parts
+with_last n (part m a xs) s = part m a (with_last n xs s)

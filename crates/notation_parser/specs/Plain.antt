@@ -1,4 +1,4 @@
--- Forms in which nothing binds: what is read so far.
+-- The forms that are read so far.
 use Rattle.std.specs.Prelude.{◌≡◌, ◌≢◌, List, [], ◌∷◌, None}
 use Rattle.std.specs.List.{AllByRecursion}
 use Rattle.binding_terms.specs.Signature.{Signature}
@@ -23,8 +23,14 @@ IsNoContext (want_term c) = Unit {0}
 IsNoContext want_judgment = Unit {0}
 IsNoContext (want_context c) = ⊥
 
--- Nothing binds, no judgment assumes a context, no variable is in scope, and no new name may stand in the form. This condition
--- is to go: forms that bind are read by the same relation.
+-- What is read so far: no judgment assumes a context, no known variable is in scope, no new name may stand in the form, and no
+-- context is wanted. All but what is said of names is to go: other forms are read by the same relation.
+abbrev pub IsReadable : Signature → List Judgment → ReadingScope → Want → Type 0
+IsReadable sig js scope want =
+    NamesApart scope.names.metas × AllByRecursion (λ j. j.ctx ≡ None) js × (scope.names.knowns ≡ []) × (scope.fresh ≡ not_fresh) × IsNoContext want
+
+-- Forms in which nothing binds: no judgment assumes a context, no variable is in scope, and no new name
+-- may stand in the form.
 pub record IsPlain (sig : Signature) (js : List Judgment) (scope : ReadingScope) (want : Want) : Type 0 where
   pub nothing_binds : NothingBinds sig scope.names.metas
   pub judgments : AllByRecursion (λ j. j.ctx ≡ None) js

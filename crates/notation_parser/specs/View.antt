@@ -3,7 +3,7 @@ use Rattle.std.specs.Prelude.{ℕ, List, map, reverse}
 use Rattle.binding_terms.specs.declared.grammar.CatId.{CatId}
 use Rattle.binding_terms.specs.declared.text.Text.{Text}
 use Rattle.scheme_terms.specs.View.{scheme, scheme_context, known_variable, names}
-use Rattle.rule_schemes.specs.Reading.{Variable, bound, Fresh, not_fresh, fresh_names, fresh_head, ReadingScope}
+use Rattle.rule_schemes.specs.Reading.{Variable, bound, entry_of, Fresh, not_fresh, fresh_names, fresh_head, ReadingScope}
 use Rattle.rule_schemes.specs.Reading as reading
 use Rattle.rule_schemes.specs.Said as said
 use Rattle.rule_schemes.specs.View.{judgment_scheme}
@@ -18,6 +18,9 @@ use Rattle.rule_schemes.specs.declared.reading.Said.{Said}
 use Rattle.proof_lexer.specs.declared.token.Kind.{Kind}
 use Rattle.proof_lexer.specs.declared.token.Kind.TheVariants as kinds
 use Rattle.proof_lexer.specs.declared.token.Token.{Token}
+use Rattle.notation_parser.specs.declared.variables.Var.{Var}
+use Rattle.notation_parser.specs.declared.variables.Meaning.{Meaning}
+use Rattle.notation_parser.specs.declared.variables.Meaning.TheVariants as meanings
 
 -- the number of a kind
 abbrev pub kind_number : Kind → ℕ
@@ -60,3 +63,14 @@ written (writings.Context c) = said.a_context (scheme_context c)
 
 abbrev pub what_is_said : Said → said.Said
 what_is_said s = record { written = written s.written; metas = s.metas; knowns = map known_variable s.knowns }
+
+abbrev pub meaning : Meaning → reading.Meaning
+meaning meanings.Bound = bound
+meaning (meanings.Entry k) = entry_of k
+
+abbrev pub variable : Var → Variable
+variable v = record { word = v.word.now; cat = v.cat.0; means = meaning v.means }
+
+-- the variables in scope, the innermost first
+abbrev pub in_scope : List Var → List Variable
+in_scope vs = reverse (map variable vs)

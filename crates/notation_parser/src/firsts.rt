@@ -1,6 +1,6 @@
 ghost use Rattle.std.specs.Prelude.{◌≡◌, ◌↔◌, IsTrue, IfOk, [], ◌∷◌, ◌++◌, map};
-ghost use Rattle.scheme_terms.specs.View.{scheme, scheme_part};
-ghost use Rattle.notation_parser.specs.Firsts.{listed, AreJoined, paired, IsFull, backwards, part_after};
+ghost use Rattle.scheme_terms.specs.View.{scheme, scheme_part, scheme_parts};
+ghost use Rattle.notation_parser.specs.Firsts.{listed, AreJoined, paired, IsFull, with_last};
 
 use binding_terms::NoMemory;
 use scheme_terms::{SArg, Scheme, copy_scheme, same_scheme};
@@ -58,7 +58,7 @@ fn one_joined(a: Scheme, second: Firsts<Scheme>) -> Firsts<Scheme>
 }
 
 fn with_part(mut parts: Items<SArg>, binds: usize, body: Scheme) -> Result<Items<SArg>, NoMemory>
-    ensures { IfOk result (λ new. backwards new ≡ part_after binds (scheme body) (backwards parts)) }
+    ensures { IfOk result (λ new. scheme_parts new ≡ with_last binds (scheme_parts parts) (scheme body)) }
 {
     parts.push(SArg { binds, body })?;
     Ok(parts)
@@ -85,22 +85,23 @@ pub fn extended(
     binds: usize,
     bodies: Firsts<Scheme>,
 ) -> Result<Firsts<Items<SArg>>, NoMemory>
-    ensures { IfOk result (λ new. listed backwards new ≡ paired (part_after binds) (listed scheme bodies) (listed backwards found)) }
+    ensures { IfOk result
+        (λ new. listed scheme_parts new ≡ paired (with_last binds) (listed scheme_parts found) (listed scheme bodies)) }
 {
-    match (bodies, found) {
+    match (found, bodies) {
         (Firsts::Nothing, _) => Ok(Firsts::Nothing),
         (_, Firsts::Nothing) => Ok(Firsts::Nothing),
-        (Firsts::One(a), Firsts::One(x)) => Ok(Firsts::One(with_part(x, binds, a)?)),
-        (Firsts::Two(a, b), Firsts::One(x)) => {
+        (Firsts::One(x), Firsts::One(a)) => Ok(Firsts::One(with_part(x, binds, a)?)),
+        (Firsts::Two(x, y), Firsts::One(a)) => {
+            let b = copy_scheme(alloc, &a)?;
+            Ok(Firsts::Two(with_part(x, binds, a)?, with_part(y, binds, b)?))
+        }
+        (Firsts::One(x), Firsts::Two(a, b)) => {
             let y = again(alloc, x.as_slice())?;
             Ok(Firsts::Two(with_part(x, binds, a)?, with_part(y, binds, b)?))
         }
-        (Firsts::One(a), Firsts::Two(x, y)) => {
-            let b = copy_scheme(alloc, &a)?;
-            Ok(Firsts::Two(with_part(x, binds, a)?, with_part(y, binds, b)?))
-        }
-        (Firsts::Two(a, _), Firsts::Two(x, y)) => {
-            let b = copy_scheme(alloc, &a)?;
+        (Firsts::Two(x, _), Firsts::Two(a, b)) => {
+            let y = again(alloc, x.as_slice())?;
             Ok(Firsts::Two(with_part(x, binds, a)?, with_part(y, binds, b)?))
         }
     }

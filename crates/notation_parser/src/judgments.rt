@@ -1,62 +1,69 @@
 // The readings of judgments. Here a judgment is kept as the product of its form with its parts, and so is its number.
-ghost use Rattle.std.specs.Prelude.{◌≡◌, IfOk, map};
-ghost use Rattle.scheme_terms.specs.View.{scheme, scheme_parts};
-ghost use Rattle.rule_schemes.specs.Reading.{bare};
+ghost use Rattle.std.specs.Prelude.{◌≡◌, ◌↔◌, [], IfOk, IsTrue, map};
+ghost use Rattle.binding_terms.specs.Signature.{binders};
+ghost use Rattle.scheme_terms.specs.View.{scheme};
 ghost use Rattle.rule_schemes.specs.Said.{a_judgment, IsBefore};
-ghost use Rattle.notation_parser.specs.Cases.{IsMade};
 ghost use Rattle.notation_parser.specs.Firsts.{listed, AreFirst};
-ghost use Rattle.notation_parser.specs.Forms.{IsForm, closed_judgment, judgment_of};
-ghost use Rattle.notation_parser.specs.Plain.{NothingBinds};
-ghost use Rattle.notation_parser.specs.View.{token, written};
+ghost use Rattle.notation_parser.specs.Forms.{IsFormOf, IsForm, closed_judgment, judgment_of};
+ghost use Rattle.notation_parser.specs.Splitting.{IsSheet, AreKnown, tokens_of};
+ghost use Rattle.notation_parser.specs.View.{in_scope, written};
 
 use crate::firsts::{Firsts, is_full, joined};
+use crate::sheet::Sheet;
 use crate::splits::splits;
-use crate::terms::{number, parts, products};
-use binding_terms::{Item, NoMemory, ProdId, Sig};
-use proof_lexer::Token;
+use crate::terms::{Head, bodies, in_splits, number};
+use crate::variables::Var;
+use binding_terms::{Item, NoMemory, ProdId};
 use rule_schemes::{JScheme, JudgId, Judgment, Written};
-use scheme_terms::{MetaDecl, Root, SArg, SCtx, Scheme, copy_scheme};
+use scheme_terms::{Root, SCtx, Scheme};
 use sqlite_items::Items;
 use std::alloc::Global;
 
-/// The readings by a form with these items.
-fn form(
-    alloc: Global,
-    sig: &Sig,
-    metas: &[MetaDecl],
-    id: ProdId,
-    items: &[Item],
-    tokens: &[Token<'_>],
-) -> Result<Firsts<Scheme>, NoMemory>
-    requires { NothingBinds sig.now metas.now }
-    ensures { IfOk result
-        (λ found. AreFirst IsBefore (IsMade sig.now metas.now id.0 id.0 items.now (map token tokens.now)) (listed scheme found)) }
+/// Whether no binder stands among the items.
+fn writes_nothing(items: &[Item]) -> bool
+    ensures { IsTrue result ↔ (binders items.now ≡ []) }
 {
-    let kept = splits(alloc, items, 0, tokens, 0)?;
-    let all = kept.as_slice();
-    let mut found = Firsts::Nothing;
-    for split in all {
-        if is_full(&found) {
-            return Ok(found);
+    for item in items {
+        if let Item::Binder(_) = item {
+            return false;
         }
-        let slots = parts(alloc, sig, metas, split.as_slice(), tokens)?;
-        let more = products(alloc, id, slots)?;
-        found = joined(found, more);
     }
-    Ok(found)
+    true
+}
+
+/// The readings by a form with these items.
+fn form<'a>(
+    alloc: Global,
+    sheet: &Sheet<'a>,
+    vars: &[Var<'a>],
+    id: ProdId,
+    items: &'a [Item],
+) -> Result<Firsts<Scheme>, NoMemory>
+    requires sheet { IsSheet sheet.now }
+    requires vars { AreKnown sheet.now (in_scope vars.now) }
+    ensures { IfOk result
+        (λ found. AreFirst IsBefore (IsFormOf sheet.now.sig.now sheet.now.metas.now (in_scope vars.now) id.0 items.now (tokens_of sheet.now))
+        (listed scheme found)) }
+{
+    if !writes_nothing(items) {
+        return Ok(Firsts::Nothing);
+    }
+    let all = splits(alloc, sheet, items, 0, 0, sheet.tokens.len())?;
+    in_splits(alloc, sheet, vars, Head::Product(id), all.as_slice())
 }
 
 /// The first two readings of the tokens as a judgment.
-pub fn forms(
+pub fn forms<'a>(
     alloc: Global,
-    sig: &Sig,
-    metas: &[MetaDecl],
-    judgments: &[Judgment],
-    tokens: &[Token<'_>],
+    sheet: &Sheet<'a>,
+    vars: &[Var<'a>],
+    judgments: &'a [Judgment],
 ) -> Result<Firsts<Scheme>, NoMemory>
-    requires { NothingBinds sig.now metas.now }
+    requires sheet { IsSheet sheet.now }
+    requires vars { AreKnown sheet.now (in_scope vars.now) }
     ensures { IfOk result
-        (λ found. AreFirst IsBefore (IsForm sig.now metas.now judgments.now (map token tokens.now)) (listed scheme found)) }
+        (λ found. AreFirst IsBefore (IsForm sheet.now.sig.now sheet.now.metas.now (in_scope vars.now) judgments.now (tokens_of sheet.now))
+        (listed scheme found)) }
 {
     let mut found = Firsts::Nothing;
     for k in 0..judgments.len() {
@@ -64,20 +71,10 @@ pub fn forms(
             return Ok(found);
         }
         let id = ProdId(number(k)?);
-        let more = form(alloc, sig, metas, id, judgments[k].items.as_slice(), tokens)?;
+        let more = form(alloc, sheet, vars, id, judgments[k].items.as_slice())?;
         found = joined(found, more);
     }
     Ok(found)
-}
-
-fn bodies(alloc: Global, parts: &[SArg]) -> Result<Items<Scheme>, NoMemory>
-    ensures { IfOk result (λ all. map scheme all ≡ bare (scheme_parts parts.now)) }
-{
-    let mut all = Items::new(alloc);
-    for part in parts {
-        all.push(copy_scheme(alloc, &part.body)?)?;
-    }
-    Ok(all)
 }
 
 /// The judgment that is kept as that product.

@@ -1,8 +1,9 @@
 // The test of what is read so far.
 ghost use Rattle.std.specs.Prelude.{◌≡◌, ◌≢◌, ◌↔◌, IsTrue, None, [], map};
+ghost use Rattle.binding_terms.specs.Signature.{Signature};
 ghost use Rattle.scheme_terms.specs.View.{known_variable};
 ghost use Rattle.std.specs.List.{AllByRecursion};
-ghost use Rattle.notation_parser.specs.Plain.{IsPlain, NamesApart, IsNoContext};
+ghost use Rattle.notation_parser.specs.Plain.{IsPlain, IsReadable, NamesApart, IsNoContext};
 ghost use Rattle.rule_schemes.specs.Reading.{not_fresh};
 ghost use Rattle.notation_parser.specs.View.{wanted, reading_scope, freshness_of, scope_words};
 
@@ -103,7 +104,18 @@ fn no_words(vars: &[(Text, CatId)]) -> bool
     vars.len() == 0
 }
 
-/// Whether forms are read here: nothing binds, and neither contexts, variables nor new names stand in them.
+/// Whether forms are read here: neither contexts, known variables nor new names stand in them.
+pub fn is_readable(judgments: &Vec<Judgment>, scope: &ReadScope, want: Want) -> bool
+    ensures { (sig : Signature) → IsTrue result ↔ IsReadable sig judgments.now.items (reading_scope scope.now) (wanted want) }
+{
+    names_apart(scope.scope.metas.as_slice())
+        && no_contexts(judgments.as_slice())
+        && no_knowns(scope.scope.knowns.as_slice())
+        && is_not_fresh(scope.fresh)
+        && is_no_context(want)
+}
+
+/// Whether nothing binds in forms, and neither contexts, variables nor new names stand in them.
 pub fn is_plain(sig: &Sig, judgments: &Vec<Judgment>, scope: &ReadScope, want: Want) -> bool
     ensures { IsTrue result ↔ IsPlain sig.now judgments.now.items (reading_scope scope.now) (wanted want) }
 {

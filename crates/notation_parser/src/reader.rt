@@ -4,12 +4,15 @@ ghost use Rattle.rule_schemes.specs.Said.{a_term, a_judgment};
 ghost use Rattle.notation_parser.specs.Answer.{IsAnswer, Tells, plainly};
 ghost use Rattle.notation_parser.specs.Firsts.{listed};
 ghost use Rattle.notation_parser.specs.Forms.{judgment_of};
-ghost use Rattle.notation_parser.specs.Plain.{IsPlain};
+ghost use Rattle.notation_parser.specs.Plain.{IsReadable};
 ghost use Rattle.notation_parser.specs.View.{token, wanted, reading_scope, written, what_is_said};
 
+use crate::chart::Chart;
 use crate::firsts::Firsts;
 use crate::judgments::{as_judgment, forms};
+use crate::sheet::Sheet;
 use crate::terms::terms;
+use crate::variables::scope_variables;
 use binding_terms::{NoMemory, Sig};
 use proof_lexer::Token;
 use rule_schemes::{Judgment, ReadScope, Reading, Said, Want, Written};
@@ -29,7 +32,7 @@ pub fn read(
     want: Want,
     tokens: &[Token<'_>],
 ) -> Result<Reading, NoMemory>
-    requires { IsPlain sig.now judgments.now.items (reading_scope scope.now) (wanted want) }
+    requires { IsReadable sig.now judgments.now.items (reading_scope scope.now) (wanted want) }
     ensures { IfOk result
         (λ r. IsAnswer sig.now judgments.now.items (reading_scope scope.now) (wanted want) (map token tokens.now) r) }
 {
@@ -37,13 +40,24 @@ pub fn read(
         return Ok(Reading::TooLong(tokens.len()));
     }
     let metas = scope.scope.metas.as_slice();
+    let words = scope.vars.as_slice();
+    let chart = Chart::new(alloc, sig, metas, words, tokens)?;
+    let sheet = Sheet {
+        sig,
+        metas,
+        words,
+        tokens,
+        chart: &chart,
+        contexts: None,
+    };
     match want {
         Want::Term(cat) => {
-            let found = terms(alloc, sig, metas, cat, tokens)?;
+            let vars = scope_variables(alloc, words)?;
+            let found = terms(alloc, &sheet, vars.as_slice(), cat, 0, tokens.len())?;
             Ok(answer(alloc, as_terms(found)))
         }
         Want::Judgment => {
-            let found = forms(alloc, sig, metas, judgments.as_slice(), tokens)?;
+            let found = forms(alloc, &sheet, &[], judgments.as_slice())?;
             Ok(answer(alloc, as_judgments(alloc, found)?))
         }
         Want::Context(_) => unreachable!(),

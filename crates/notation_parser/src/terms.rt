@@ -1,23 +1,32 @@
-ghost use Rattle.std.specs.Prelude.{◌≡◌, ◌+◌, ◌≢◌, ◌↔◌, ◌<◌, ◌≤◌, IsTrue, IfOk, [], map, reverse, length, slice_range};
-ghost use Rattle.scheme_terms.specs.View.{scheme, scheme_part, parts_of};
-ghost use Rattle.scheme_terms.specs.SchemeTree.{con};
+// The readings of terms.
+ghost use Rattle.std.specs.Prelude.{◌≡◌, ◌+◌, ◌≢◌, ◌↔◌, ◌<◌, ◌≤◌, ℕ, IsTrue, IfOk, [], ◌∷◌, map, length, slice_range};
+ghost use Rattle.scheme_terms.specs.View.{scheme, scheme_parts};
+ghost use Rattle.rule_schemes.specs.Reading.{bare};
 ghost use Rattle.binding_terms.specs.Signature.{IsSingle};
 ghost use Rattle.rule_schemes.specs.Said.{IsBefore, AreBefore};
 ghost use Rattle.notation_parser.specs.Ordered.{ReadsTermAt};
-ghost use Rattle.notation_parser.specs.Cases.{IsGroup, IsName, IsNameOf, IsMade, IsProduct};
-ghost use Rattle.notation_parser.specs.Firsts.{listed, AreFirst, backwards};
-ghost use Rattle.notation_parser.specs.Plain.{NamesApart, NothingBinds};
-ghost use Rattle.notation_parser.specs.Splitting.{AreWithin, ReadsPieces};
-ghost use Rattle.notation_parser.specs.View.{token};
+ghost use Rattle.notation_parser.specs.Cases.{IsGroup, IsName, IsNameOf, IsVariable, IsMade, IsProduct};
+ghost use Rattle.notation_parser.specs.Firsts.{listed, AreFirst};
+ghost use Rattle.notation_parser.specs.Splitting.{IsSheet, tokens_of, AreKnown, AreWithin, AreUsable, AreInOrder, slot_range, split, built, ReadsPieces, IsMadeIn};
+ghost use Rattle.notation_parser.specs.View.{variable, in_scope};
 
+use crate::brackets::bracket_splits;
 use crate::firsts::{Firsts, extended, is_full, joined};
-use crate::splits::{Piece, splits};
-use crate::words::{is_punctuation, is_word};
-use binding_terms::{CatId, Item, NoMemory, ProdId, Sig};
-use proof_lexer::Token;
-use scheme_terms::{MetaDecl, MetaId, SArg, Scheme};
+use crate::sheet::Sheet;
+use crate::splits::{Piece, Split, splits};
+use crate::variables::{Var, innermost, slot_scope};
+use crate::words::{is_any_word, is_word};
+use binding_terms::{CatId, Item, NoMemory, ProdId};
+use scheme_terms::{MetaDecl, MetaId, SArg, Scheme, copy_scheme};
 use sqlite_items::Items;
 use std::alloc::Global;
+
+/// What is made of the readings of slots.
+#[derive(Clone, Copy, Debug, PartialEq, Eq)]
+pub enum Head {
+    Product(ProdId),
+    Meta(MetaId),
+}
 
 pub fn number(at: usize) -> Result<u32, NoMemory>
     ensures { IfOk result (λ n. n ≡ at) }
@@ -28,80 +37,43 @@ pub fn number(at: usize) -> Result<u32, NoMemory>
     }
 }
 
-/// The parts with the first one first.
-fn in_order(alloc: Global, mut parts: Items<SArg>) -> Result<Items<SArg>, NoMemory>
-    ensures { IfOk result (λ all. parts_of (map scheme_part all) ≡ backwards parts) }
+/// The schemes of the parts alone.
+pub fn bodies(alloc: Global, parts: &[SArg]) -> Result<Items<Scheme>, NoMemory>
+    ensures { IfOk result (λ all. map scheme all ≡ bare (scheme_parts parts.now)) }
 {
     let mut all = Items::new(alloc);
-    while let Some(part) = parts.pop() {
-        all.push(part)?;
+    for part in parts {
+        all.push(copy_scheme(alloc, &part.body)?)?;
     }
     Ok(all)
 }
 
-fn product_of(alloc: Global, prod: ProdId, parts: Items<SArg>) -> Result<Scheme, NoMemory>
-    ensures { IfOk result (λ new. scheme new ≡ con prod.0 (backwards parts)) }
+fn build(alloc: Global, head: Head, parts: Items<SArg>) -> Result<Scheme, NoMemory>
+    ensures { IfOk result (λ new. scheme new ≡ built head (scheme_parts parts)) }
 {
-    Ok(Scheme::Con(prod, in_order(alloc, parts)?))
+    match head {
+        Head::Product(prod) => Ok(Scheme::Con(prod, parts)),
+        Head::Meta(meta) => Ok(Scheme::Meta(meta, bodies(alloc, parts.as_slice())?)),
+    }
 }
 
-/// The production with each of the parts.
-pub fn products(
+/// What is made of each of the parts.
+fn all_built(
     alloc: Global,
-    prod: ProdId,
+    head: Head,
     found: Firsts<Items<SArg>>,
 ) -> Result<Firsts<Scheme>, NoMemory>
-    ensures { IfOk result (λ new. listed scheme new ≡ map (con prod.0) (listed backwards found)) }
+    ensures { IfOk result (λ new. listed scheme new ≡ map (built head) (listed scheme_parts found)) }
 {
     match found {
         Firsts::Nothing => Ok(Firsts::Nothing),
-        Firsts::One(x) => Ok(Firsts::One(product_of(alloc, prod, x)?)),
-        Firsts::Two(x, y) => Ok(Firsts::Two(
-            product_of(alloc, prod, x)?,
-            product_of(alloc, prod, y)?,
-        )),
+        Firsts::One(x) => Ok(Firsts::One(build(alloc, head, x)?)),
+        Firsts::Two(x, y) => Ok(Firsts::Two(build(alloc, head, x)?, build(alloc, head, y)?)),
     }
-}
-
-/// The metavariable with that number, where the tokens are its name.
-fn name(
-    alloc: Global,
-    m: usize,
-    decl: &MetaDecl,
-    cat: CatId,
-    tokens: &[Token<'_>],
-) -> Result<Firsts<Scheme>, NoMemory>
-    ensures { IfOk result (λ found. AreFirst IsBefore (IsNameOf m decl.now cat.0 (map token tokens.now)) (listed scheme found)) }
-{
-    if tokens.len() != 1 {
-        return Ok(Firsts::Nothing);
-    }
-    if decl.cat.0 != cat.0 || !is_word(decl.name.bytes(), &tokens[0]) {
-        return Ok(Firsts::Nothing);
-    }
-    Ok(Firsts::One(Scheme::Meta(MetaId(number(m)?), Items::new(alloc))))
-}
-
-/// The metavariables of the category whose name the tokens are.
-fn names(
-    alloc: Global,
-    metas: &[MetaDecl],
-    cat: CatId,
-    tokens: &[Token<'_>],
-) -> Result<Firsts<Scheme>, NoMemory>
-    requires { NamesApart metas.now }
-    ensures { IfOk result (λ found. AreFirst IsBefore (IsName metas.now cat.0 (map token tokens.now)) (listed scheme found)) }
-{
-    let mut found = Firsts::Nothing;
-    for m in 0..metas.len() {
-        let more = name(alloc, m, &metas[m], cat, tokens)?;
-        found = joined(found, more);
-    }
-    Ok(found)
 }
 
 fn is_nothing(found: &Firsts<Items<SArg>>) -> bool
-    ensures { IsTrue result ↔ (listed backwards found.now ≡ []) }
+    ensures { IsTrue result ↔ (listed scheme_parts found.now ≡ []) }
 {
     match found {
         Firsts::Nothing => true,
@@ -110,141 +82,265 @@ fn is_nothing(found: &Firsts<Items<SArg>>) -> bool
     }
 }
 
-/// The tokens of the slot.
-fn tokens_of<'a, 'b>(tokens: &'a [Token<'b>], piece: Piece) -> &'a [Token<'b>]
-    requires start { piece.from ≤ piece.to }
-    requires end { piece.to ≤ length tokens.now }
-    ensures { result.now ≡ slice_range tokens.now piece.from piece.to }
-{
-    &tokens[piece.from..piece.to]
-}
-
-/// The readings of the slots together, where the last slot stands first and the last part is told first.
+/// The first two readings of the slots together, under the variables that each lists among the split's own.
 #[cycle(terms)]
-pub fn parts(
+pub fn parts<'a>(
     alloc: Global,
-    sig: &Sig,
-    metas: &[MetaDecl],
-    pieces: &[Piece],
-    tokens: &[Token<'_>],
+    sheet: &Sheet<'a>,
+    vars: &[Var<'a>],
+    own: &[Var<'a>],
+    slots: &[Piece<'a>],
 ) -> Result<Firsts<Items<SArg>>, NoMemory>
-    requires plain { NothingBinds sig.now metas.now }
-    requires within { AreWithin (length tokens.now) (reverse pieces.now) }
+    requires sheet { IsSheet sheet.now }
+    requires vars { AreKnown sheet.now (in_scope vars.now) }
+    requires own { AreKnown sheet.now (map variable own.now) }
+    requires within { AreWithin (length sheet.now.tokens.now) (map slot_range slots.now) }
     ensures { IfOk result
-        (λ found. AreFirst AreBefore (ReadsPieces sig.now metas.now (map token tokens.now) (reverse pieces.now)) (listed backwards found)) }
+        (λ found. AreFirst AreBefore
+        (ReadsPieces sheet.now.sig.now sheet.now.metas.now (tokens_of sheet.now) (in_scope vars.now) (map variable own.now) (map slot_range slots.now))
+        (listed scheme_parts found)) }
 {
     let mut found = Firsts::One(Items::new(alloc));
-    for piece in pieces {
+    for slot in slots {
         if is_nothing(&found) {
             return Ok(found);
         }
-        let inner = tokens_of(tokens, *piece);
-        let bodies = terms(alloc, sig, metas, piece.cat, inner)?;
-        found = extended(alloc, found, piece.binds, bodies)?;
+        let scope = slot_scope(alloc, vars, own, slot.binds)?;
+        let more = terms(alloc, sheet, scope.as_slice(), slot.cat, slot.from, slot.to)?;
+        found = extended(alloc, found, slot.binds.len(), more)?;
     }
     Ok(found)
 }
 
-/// The readings by a production with these items.
+/// The first two readings in the splits, as what is made of them.
 #[cycle(terms)]
-fn made(
+pub fn in_splits<'a>(
     alloc: Global,
-    sig: &Sig,
-    metas: &[MetaDecl],
-    prod: ProdId,
-    items: &[Item],
-    tokens: &[Token<'_>],
+    sheet: &Sheet<'a>,
+    vars: &[Var<'a>],
+    head: Head,
+    all: &[Split<'a>],
 ) -> Result<Firsts<Scheme>, NoMemory>
-    requires plain { NothingBinds sig.now metas.now }
-    requires some { items.now ≢ [] }
-    requires not_single { IsSingle items.now → ⊥ }
+    requires sheet { IsSheet sheet.now }
+    requires vars { AreKnown sheet.now (in_scope vars.now) }
+    requires usable { AreUsable sheet.now (map split all.now) }
+    requires in_order { AreInOrder (map split all.now) }
     ensures { IfOk result
-        (λ found. AreFirst IsBefore (IsMade sig.now metas.now (3 + prod.0) prod.0 items.now (map token tokens.now)) (listed scheme found)) }
+        (λ found. (alternative : ℕ)
+        → AreFirst IsBefore (IsMadeIn sheet.now (in_scope vars.now) alternative head (map split all.now)) (listed scheme found)) }
 {
-    let kept = splits(alloc, items, 0, tokens, 0)?;
-    let all = kept.as_slice();
     let mut found = Firsts::Nothing;
     for split in all {
         if is_full(&found) {
             return Ok(found);
         }
-        let slots = parts(alloc, sig, metas, split.as_slice(), tokens)?;
-        let more = products(alloc, prod, slots)?;
+        let slots = parts(
+            alloc,
+            sheet,
+            vars,
+            split.own.as_slice(),
+            split.slots.as_slice(),
+        )?;
+        let more = all_built(alloc, head, slots)?;
         found = joined(found, more);
     }
     Ok(found)
 }
 
+/// The readings as the metavariable with that number, with its arguments in brackets.
+#[cycle(terms)]
+fn name<'a>(
+    alloc: Global,
+    sheet: &Sheet<'a>,
+    vars: &[Var<'a>],
+    m: usize,
+    decl: &'a MetaDecl,
+    cat: CatId,
+    from: usize,
+    to: usize,
+) -> Result<Firsts<Scheme>, NoMemory>
+    requires sheet { IsSheet sheet.now }
+    requires vars { AreKnown sheet.now (in_scope vars.now) }
+    requires range { (from ≤ to) × (to ≤ length sheet.now.tokens.now) }
+    ensures { IfOk result
+        (λ found. AreFirst IsBefore
+        (IsNameOf sheet.now.sig.now sheet.now.metas.now (in_scope vars.now) m decl.now cat.0 (slice_range (tokens_of sheet.now) from to))
+        (listed scheme found)) }
+{
+    if from == to {
+        return Ok(Firsts::Nothing);
+    }
+    if decl.cat.0 != cat.0 {
+        return Ok(Firsts::Nothing);
+    }
+    if !is_word(decl.name.bytes(), &sheet.tokens[from]) {
+        return Ok(Firsts::Nothing);
+    }
+    let all = bracket_splits(alloc, sheet, decl.params.as_slice(), from + 1, to)?;
+    let head = Head::Meta(MetaId(number(m)?));
+    in_splits(alloc, sheet, vars, head, all.as_slice())
+}
+
+/// The readings as a metavariable of the category.
+#[cycle(terms)]
+fn names<'a>(
+    alloc: Global,
+    sheet: &Sheet<'a>,
+    vars: &[Var<'a>],
+    cat: CatId,
+    from: usize,
+    to: usize,
+) -> Result<Firsts<Scheme>, NoMemory>
+    requires sheet { IsSheet sheet.now }
+    requires vars { AreKnown sheet.now (in_scope vars.now) }
+    requires range { (from ≤ to) × (to ≤ length sheet.now.tokens.now) }
+    ensures { IfOk result
+        (λ found. AreFirst IsBefore
+        (IsName sheet.now.sig.now sheet.now.metas.now (in_scope vars.now) cat.0 (slice_range (tokens_of sheet.now) from to))
+        (listed scheme found)) }
+{
+    let metas = sheet.metas;
+    let mut found = Firsts::Nothing;
+    for m in 0..metas.len() {
+        let more = name(alloc, sheet, vars, m, &metas[m], cat, from, to)?;
+        found = joined(found, more);
+    }
+    Ok(found)
+}
+
+/// The reading as a variable of the category that is in scope.
+fn variables(
+    sheet: &Sheet<'_>,
+    vars: &[Var<'_>],
+    cat: CatId,
+    from: usize,
+    to: usize,
+) -> Firsts<Scheme>
+    requires range { (from ≤ to) × (to ≤ length sheet.now.tokens.now) }
+    ensures { AreFirst IsBefore (IsVariable (in_scope vars.now) cat.0 (slice_range (tokens_of sheet.now) from to)) (listed scheme result) }
+{
+    if to - from != 1 {
+        return Firsts::Nothing;
+    }
+    if !is_any_word(&sheet.tokens[from]) {
+        return Firsts::Nothing;
+    }
+    match innermost(vars, cat, sheet.tokens[from].text.as_bytes()) {
+        Some(found) => Firsts::One(found),
+        None => Firsts::Nothing,
+    }
+}
+
+/// The readings by a production with these items.
+#[cycle(terms)]
+fn made<'a>(
+    alloc: Global,
+    sheet: &Sheet<'a>,
+    vars: &[Var<'a>],
+    prod: ProdId,
+    items: &'a [Item],
+    from: usize,
+    to: usize,
+) -> Result<Firsts<Scheme>, NoMemory>
+    requires sheet { IsSheet sheet.now }
+    requires vars { AreKnown sheet.now (in_scope vars.now) }
+    requires some { items.now ≢ [] }
+    requires not_single { IsSingle items.now → ⊥ }
+    requires range { (from ≤ to) × (to ≤ length sheet.now.tokens.now) }
+    ensures { IfOk result
+        (λ found. AreFirst IsBefore
+        (IsMade sheet.now.sig.now sheet.now.metas.now (in_scope vars.now) (3 + prod.0) prod.0 items.now (slice_range (tokens_of sheet.now) from to))
+        (listed scheme found)) }
+{
+    let all = splits(alloc, sheet, items, 0, from, to)?;
+    in_splits(alloc, sheet, vars, Head::Product(prod), all.as_slice())
+}
+
 /// The readings by the production with that number, where it is of the category.
 #[cycle(terms)]
-fn product(
+fn product<'a>(
     alloc: Global,
-    sig: &Sig,
-    metas: &[MetaDecl],
+    sheet: &Sheet<'a>,
+    vars: &[Var<'a>],
     p: usize,
     cat: CatId,
-    tokens: &[Token<'_>],
+    from: usize,
+    to: usize,
 ) -> Result<Firsts<Scheme>, NoMemory>
-    requires plain { NothingBinds sig.now metas.now }
-    requires within { p < length sig.now.prods }
+    requires sheet { IsSheet sheet.now }
+    requires vars { AreKnown sheet.now (in_scope vars.now) }
+    requires prod { p < length sheet.now.sig.now.prods }
+    requires range { (from ≤ to) × (to ≤ length sheet.now.tokens.now) }
     ensures { IfOk result
-        (λ found. AreFirst IsBefore (IsProduct sig.now metas.now p cat.0 (map token tokens.now)) (listed scheme found)) }
+        (λ found. AreFirst IsBefore
+        (IsProduct sheet.now.sig.now sheet.now.metas.now (in_scope vars.now) p cat.0 (slice_range (tokens_of sheet.now) from to))
+        (listed scheme found)) }
 {
-    let prod = &sig.prods()[p];
+    let prod = &sheet.sig.prods()[p];
     if prod.cat.0 != cat.0 {
         return Ok(Firsts::Nothing);
     }
     let id = ProdId(number(p)?);
-    made(alloc, sig, metas, id, prod.items.as_slice(), tokens)
+    made(alloc, sheet, vars, id, prod.items.as_slice(), from, to)
 }
 
 /// The readings as a form of the category in parentheses.
 #[cycle(terms)]
-fn group(
+fn group<'a>(
     alloc: Global,
-    sig: &Sig,
-    metas: &[MetaDecl],
+    sheet: &Sheet<'a>,
+    vars: &[Var<'a>],
     cat: CatId,
-    tokens: &[Token<'_>],
+    from: usize,
+    to: usize,
 ) -> Result<Firsts<Scheme>, NoMemory>
-    requires { NothingBinds sig.now metas.now }
+    requires sheet { IsSheet sheet.now }
+    requires vars { AreKnown sheet.now (in_scope vars.now) }
+    requires range { (from ≤ to) × (to ≤ length sheet.now.tokens.now) }
     ensures { IfOk result
-        (λ found. AreFirst IsBefore (IsGroup sig.now metas.now cat.0 (map token tokens.now)) (listed scheme found)) }
+        (λ found. AreFirst IsBefore
+        (IsGroup sheet.now.sig.now sheet.now.metas.now (in_scope vars.now) cat.0 (slice_range (tokens_of sheet.now) from to))
+        (listed scheme found)) }
 {
-    let count = tokens.len();
-    if count < 2 {
+    if to - from < 2 {
         return Ok(Firsts::Nothing);
     }
-    if !is_punctuation(b'(', &tokens[0]) {
+    if !sheet.has(b'(', from) {
         return Ok(Firsts::Nothing);
     }
-    if !is_punctuation(b')', &tokens[count - 1]) {
+    if !sheet.has(b')', to - 1) {
         return Ok(Firsts::Nothing);
     }
-    terms(alloc, sig, metas, cat, &tokens[1..count - 1])
+    terms(alloc, sheet, vars, cat, from + 1, to - 1)
 }
 
-/// The first two readings of the tokens as a term of the category.
+/// The first two readings, as a term of the category, of the tokens from the one place up to the other.
 #[cycle(terms)]
-pub fn terms(
+pub fn terms<'a>(
     alloc: Global,
-    sig: &Sig,
-    metas: &[MetaDecl],
+    sheet: &Sheet<'a>,
+    vars: &[Var<'a>],
     cat: CatId,
-    tokens: &[Token<'_>],
+    from: usize,
+    to: usize,
 ) -> Result<Firsts<Scheme>, NoMemory>
-    requires { NothingBinds sig.now metas.now }
+    requires sheet { IsSheet sheet.now }
+    requires vars { AreKnown sheet.now (in_scope vars.now) }
+    requires range { (from ≤ to) × (to ≤ length sheet.now.tokens.now) }
     ensures { IfOk result
-        (λ found. AreFirst IsBefore (ReadsTermAt sig.now metas.now [] cat.0 (map token tokens.now)) (listed scheme found)) }
+        (λ found. AreFirst IsBefore
+        (ReadsTermAt sheet.now.sig.now sheet.now.metas.now (in_scope vars.now) cat.0 (slice_range (tokens_of sheet.now) from to))
+        (listed scheme found)) }
 {
-    let groups = group(alloc, sig, metas, cat, tokens)?;
-    let named = names(alloc, metas, cat, tokens)?;
-    let mut found = joined(groups, named);
-    for p in 0..sig.prods().len() {
+    let groups = group(alloc, sheet, vars, cat, from, to)?;
+    let named = names(alloc, sheet, vars, cat, from, to)?;
+    let bound = variables(sheet, vars, cat, from, to);
+    let mut found = joined(joined(groups, named), bound);
+    for p in 0..sheet.sig.prods().len() {
         if is_full(&found) {
             return Ok(found);
         }
-        let more = product(alloc, sig, metas, p, cat, tokens)?;
+        let more = product(alloc, sheet, vars, p, cat, from, to)?;
         found = joined(found, more);
     }
     Ok(found)

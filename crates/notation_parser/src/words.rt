@@ -47,3 +47,10 @@ pub fn is_word(text: &[u8], t: &Token<'_>) -> bool
 {
     t.kind == Kind::Word && t.text.as_bytes() == text
 }
+
+/// Whether the token is a word.
+pub fn is_any_word(t: &Token<'_>) -> bool
+    ensures { IsTrue result ↔ ((token t.now).0 ≡ 0) }
+{
+    t.kind == Kind::Word
+}

@@ -1,47 +1,46 @@
-use Rattle.std.proofs.Common.{◌≡◌, map, reverse, take, subst}
-use Rattle.std.proofs.lemmas.List.{length-map, take_all}
-use Rattle.scheme_terms.specs.View.{scheme}
-use Rattle.notation_parser.specs.Cases.{IsMade}
-use Rattle.notation_parser.specs.Firsts.{listed, AreFirst}
-use Rattle.notation_parser.specs.Splitting.{AreSplits, AreWithin}
-use Rattle.notation_parser.specs.View.{token}
-use Rattle.notation_parser.proofs.Finding.{AreFirst-same}
-use Rattle.notation_parser.proofs.Pieces.{split_within}
+use Rattle.std.proofs.Common.{◌≡◌, ◌≤◌, length, subst, sym, ◌∙◌, true≢false, slice_range, arith}
+use Rattle.std.proofs.lemmas.List.{length-map}
+use Rattle.notation_parser.proofs.Ranges.{range_all}
 use Rattle.rule_schemes.specs.Said.{IsBefore}
-use Rattle.notation_parser.proofs.TermCases.{IsMadeIn, made_more, made_enough, made_in_splits, split_at}
+use Rattle.scheme_terms.specs.View.{scheme}
+use Rattle.notation_parser.specs.Firsts.{listed, AreFirst}
+use Rattle.notation_parser.specs.Cases.{IsMade}
+use Rattle.notation_parser.specs.Forms.{IsFormOf}
+use Rattle.notation_parser.specs.Splitting.{tokens_of}
+use Rattle.notation_parser.specs.View.{token, in_scope}
+use Rattle.notation_parser.proofs.Finding.{AreFirst-same}
+use Rattle.notation_parser.proofs.Splitting.{if_ok}
+use Rattle.notation_parser.proofs.TermCases.{made_in_splits}
+use Rattle.notation_parser.proofs.Usable.{usable_splits}
 use Rattle.notation_parser.proofs.judgments.form.Goals as goal
 
-pub parts-requires-clause-within : goal.parts-requires-clause-within
-parts-requires-clause-within c =
-    let ts = map token c.args.tokens.now in
-    let all = c.as_slice-all.result.now in
-    let splits : AreSplits ts c.args.items.now 0 (map reverse all) = rw c.as_slice-all.ensures c.in_ok-kept.ensures in
-    let split = split_at ts c.args.items.now all c.loop-split.split-index c.split-item.result splits c.loop-split-test.true c.split-item.is in
-    rw c.as_slice.ensures (subst (λ n. AreWithin n (reverse c.split-item.result)) (length-map c.args.tokens.now token) (split_within ts c.args.items.now 0 _ split))
+pub in_splits-requires-clause-usable : goal.in_splits-requires-clause-usable
+in_splits-requires-clause-usable c =
+    let sheet = c.args.sheet.now in
+    let same : length sheet.tokens.now ≤ length sheet.tokens.now = omega arith in
+    rw c.as_slice.ensures (usable_splits sheet 0 (length sheet.tokens.now) same c.args.items.now _ c.in_ok-all.ensures)
 
-pub loop-split-preserved : goal.loop-split-preserved
-loop-split-preserved c =
-    let ts = map token c.args.tokens.now in
-    let all = c.as_slice-all.result.now in
-    let splits : AreSplits ts c.args.items.now 0 (map reverse all) = rw c.as_slice-all.ensures c.in_ok-kept.ensures in
-    made_more c.args.sig.now c.args.metas.now c.args.id.0 c.args.id.0 ts c.args.items.now all c.loop-split.split-index c.split-item.result
-    _ _ _ _ splits c.loop-split-test.true c.split-item.is c.loop-split.invariant (rw c.as_slice.ensures at c.in_ok-slots.ensures) c.in_ok-more.ensures c.joined-found.ensures
+pub in_splits-requires-clause-in_order : goal.in_splits-requires-clause-in_order
+in_splits-requires-clause-in_order c = rw c.as_slice.ensures (c.in_ok-all.ensures).in_order
 
-pub returns-then-is_full : goal.returns-then-is_full
-returns-then-is_full c =
-    let ts = map token c.args.tokens.now in
-    let all = c.as_slice-all.result.now in
-    let splits : AreSplits ts c.args.items.now 0 (map reverse all) = rw c.as_slice-all.ensures c.in_ok-kept.ensures in
-    made_enough c.args.sig.now c.args.metas.now c.args.id.0 c.args.id.0 ts c.args.items.now all c.loop-split.split-index c.loop-split.found
-    c.requires splits (c.is_full.ensures.0 c.if-is_full.true) c.loop-split.invariant
+pub returns-then-not-writes_nothing : goal.returns-then-not-writes_nothing
+returns-then-not-writes_nothing c = λ w s h. true≢false (sym (c.writes_nothing.ensures.1 h.0) ∙ c.if-not-writes_nothing.true)
 
 pub returns : goal.returns
 returns c =
-    let ts = map token c.args.tokens.now in
-    let all = c.as_slice-all.result.now in
-    let splits : AreSplits ts c.args.items.now 0 (map reverse all) = rw c.as_slice-all.ensures c.in_ok-kept.ensures in
-    let whole : take c.loop-split.split-index all ≡ all = take_all c.loop-split.split-index all c.loop-split-test.false in
-    AreFirst-same IsBefore _ (IsMade c.args.sig.now c.args.metas.now c.args.id.0 c.args.id.0 c.args.items.now ts) _
-    (λ w s. made_in_splits c.args.sig.now c.args.metas.now c.args.id.0 c.args.id.0 c.args.items.now ts (map reverse all) w s c.requires splits)
-    (subst (λ qs. AreFirst IsBefore (IsMadeIn c.args.sig.now c.args.metas.now c.args.id.0 c.args.id.0 ts (map reverse qs)) (listed scheme c.loop-split.found))
-    whole c.loop-split.invariant)
+    let sheet = c.args.sheet.now in
+    let vars = in_scope c.args.vars.now in
+    let ts = tokens_of sheet in
+    let long = length-map sheet.tokens.now token in
+    let some : 0 ≤ length sheet.tokens.now = omega arith in
+    let within : length sheet.tokens.now ≤ length ts = omega (arith, long) in
+    let past : length ts ≤ length sheet.tokens.now = omega (arith, long) in
+    let whole : slice_range ts 0 (length sheet.tokens.now) ≡ ts = range_all ts (length sheet.tokens.now) past in
+    let nothing = c.writes_nothing.ensures.0 c.if-not-writes_nothing.false in
+    if_ok c.in_splits.result _ _ (λ found f. AreFirst-same IsBefore _ (IsFormOf sheet.sig.now sheet.metas.now vars c.args.id.0 c.args.items.now ts) (listed scheme found)
+    (λ w s. ((λ m. (nothing, m)), (λ m. m.1)))
+    (subst (λ us. AreFirst IsBefore (IsMade sheet.sig.now sheet.metas.now vars c.args.id.0 c.args.id.0 c.args.items.now us) (listed scheme found)) whole
+    (AreFirst-same IsBefore _ (IsMade sheet.sig.now sheet.metas.now vars c.args.id.0 c.args.id.0 c.args.items.now (slice_range ts 0 (length sheet.tokens.now))) (listed scheme found)
+    (λ w s. made_in_splits sheet vars c.requires.vars 0 (length sheet.tokens.now) some within c.args.id.0 c.args.id c.args.items.now _ w s c.in_ok-all.ensures)
+    (f c.args.id.0))))
+    (rw c.as_slice.ensures at c.in_splits.ensures)

@@ -1,4 +1,3 @@
-use Rattle.std.proofs.Common.{refl, arith}
 use Rattle.notation_parser.proofs.Empty.{names_step, names_end}
 use Rattle.notation_parser.proofs.plain.names_apart.Goals as goal
 

@@ -1,153 +1,260 @@
-use Rattle.std.proofs.Common.{◌≡◌, ◌+◌, ◌-◌, ◌<◌, ◌≤◌, [], ◌∷◌, ◌++◌, length, map, reverse, take, drop, get_or, slice_get, slice_range, Some, refl, ap, ◌∙◌, sym, subst, arith}
-use Rattle.std.proofs.lemmas.List.{length-map, take_all, get_or-map}
+use Rattle.std.proofs.Common.{◌≡◌, ◌⊎◌, ◌+◌, ◌-◌, ◌<◌, ◌≤◌, ◌++◌, length, map, take, drop, get_or, slice_get, slice_range, Some, refl, ap, ◌∙◌, sym, subst, true≢false, arith}
+use Rattle.std.proofs.lemmas.List.{length-map, take_all, map_more}
 use Rattle.std.proofs.lemmas.Option.{slice_get_read}
-use Rattle.scheme_terms.specs.View.{scheme}
-use Rattle.rule_schemes.specs.Reading.{punctuation}
+use Rattle.scheme_terms.specs.View.{scheme, scheme_parts}
+use Rattle.rule_schemes.specs.Reading.{word, slot_variables}
 use Rattle.rule_schemes.specs.Said.{IsBefore, AreBefore}
 use Rattle.notation_parser.specs.Ordered.{ReadsTermAt}
-use Rattle.notation_parser.specs.Cases.{IsGroup, IsName, IsMade, IsProduct, IsReadBelow}
-use Rattle.notation_parser.specs.Firsts.{listed, AreFirst, backwards}
-use Rattle.notation_parser.specs.Splitting.{AreSplits, AreWithin, longest, ReadsPieces}
-use Rattle.notation_parser.specs.View.{token}
+use Rattle.notation_parser.specs.Cases.{IsGroup, IsName, IsNameOf, IsNameBelow, IsVariable, IsMade, IsProduct, IsReadBelow}
+use Rattle.notation_parser.specs.Firsts.{listed, AreFirst}
+use Rattle.notation_parser.specs.Splitting.{SlotRange, Divided, tokens_of, AreKnown, AreWithin, longest, reach, slot_range, split, ReadsPieces}
+use Rattle.notation_parser.specs.View.{token, variable, in_scope}
 use Rattle.notation_parser.specs.declared.splits.Piece.{Piece}
 use Rattle.notation_parser.proofs.Finding.{AreFirst-same, AreFirst-joined}
-use Rattle.notation_parser.proofs.Pieces.{around, one_more_back, within_middle, longest_middle, split_within, longest_short}
-use Rattle.notation_parser.proofs.Splitting.{if_ok, no_token}
-use Rattle.notation_parser.proofs.TermCases.{no_piece, slice_short, map_slice, none_read, slot_more, IsMadeIn, made_more, made_enough, made_in_splits, split_at, is_product, no_product, groups_first, one_product_more, products_apart, read_enough, term_read, group_read}
+use Rattle.notation_parser.proofs.Pieces.{known_scope}
+use Rattle.notation_parser.proofs.Splitting.{if_ok, no_token, token_or_at}
+use Rattle.notation_parser.proofs.TermCases.{slot_more, none_read, no_slots, made_more, made_enough, made_in_none, made_in_splits, no_product_of, is_product, no_product, groups_first, variables_last, one_product_more, products_apart, read_enough, term_read, one_name_more, all_names, names_apart}
+use Rattle.notation_parser.proofs.TermEnds.{name_read, no_name_here, group_in_range, no_group, group_short}
+use Rattle.notation_parser.proofs.Usable.{no_piece, mapped_parts, all_at_place, longest_at, reach_at, split_at, usable_splits, reach_splits, usable_brackets, reach_brackets}
 use Rattle.notation_parser.proofs.terms.+terms.Goals as goal
-
-pub parts-tokens_of-inner-requires-clause-start : goal.parts-tokens_of-inner-requires-clause-start
-parts-tokens_of-inner-requires-clause-start t c =
-    let n = length c.args.tokens.now in
-    (within_middle n _ _ _ (subst (AreWithin n) (around c.args.pieces.now c.loop-piece.piece-index no_piece c.loop-piece-test.true) c.requires.within)).0
-
-pub parts-tokens_of-inner-requires-clause-end : goal.parts-tokens_of-inner-requires-clause-end
-parts-tokens_of-inner-requires-clause-end t c =
-    let n = length c.args.tokens.now in
-    (within_middle n _ _ _ (subst (AreWithin n) (around c.args.pieces.now c.loop-piece.piece-index no_piece c.loop-piece-test.true) c.requires.within)).1
 
 pub parts-terms-requires : goal.parts-terms-requires
 parts-terms-requires t c =
-    let ps = c.args.pieces.now in
-    let j = c.loop-piece.piece-index in
-    let p : Piece = get_or ps j no_piece in
-    let there : reverse ps ≡ reverse (drop (j + 1) ps) ++ (p ∷ reverse (take j ps)) = around ps j no_piece c.loop-piece-test.true in
-    let short : length c.tokens_of-inner.result.now ≤ p.to - p.from =
-    rw c.tokens_of-inner.ensures (slice_short c.args.tokens.now p.from p.to) in
-    let long : p.to - p.from ≤ longest (reverse ps) = rw there (longest_middle (reverse (drop (j + 1) ps)) (reverse (take j ps)) p) in
-    (omega (arith, c.decreases), c.requires.plain)
+    let sheet = c.args.sheet.now in
+    let slots = c.args.slots.now in
+    let j = c.loop-slot.slot-index in
+    let p : Piece = get_or slots j no_piece in
+    let range = all_at_place slot_range (λ (q : SlotRange). (q.from ≤ q.to) × (q.to ≤ length sheet.tokens.now)) slots j no_piece c.loop-slot-test.true c.requires.within in
+    let long = longest_at slots j no_piece c.loop-slot-test.true in
+    let known : AreKnown sheet (in_scope c.as_slice.result.now) =
+    rw (c.as_slice.ensures, c.in_ok-scope.ensures) (known_scope sheet (in_scope c.args.vars.now) (map variable c.args.own.now) p.binds.now c.requires.vars c.requires.own) in
+    (omega (arith, c.decreases, long), (c.requires.sheet, (known, range)))
 
-pub parts-loop-piece-preserved : goal.parts-loop-piece-preserved
-parts-loop-piece-preserved t c =
-    let ts = map token c.args.tokens.now in
-    let ps = c.args.pieces.now in
-    let j = c.loop-piece.piece-index in
-    let p : Piece = get_or ps j no_piece in
-    let inner : map token c.tokens_of-inner.result.now ≡ slice_range ts p.from p.to =
-    ap (map token) c.tokens_of-inner.ensures ∙ map_slice token c.args.tokens.now p.from p.to in
-    let bodies : AreFirst IsBefore (ReadsTermAt c.args.sig.now c.args.metas.now [] p.cat.0 (slice_range ts p.from p.to)) (listed scheme c.in_ok-bodies.bodies) =
-    subst (λ us. AreFirst IsBefore (ReadsTermAt c.args.sig.now c.args.metas.now [] p.cat.0 us) (listed scheme c.in_ok-bodies.bodies)) inner c.in_ok-bodies.ensures in
-    subst (λ qs. AreFirst AreBefore (ReadsPieces c.args.sig.now c.args.metas.now ts qs) (listed backwards c.in_ok-found.found)) (sym (one_more_back ps j no_piece c.loop-piece-test.true))
-    (subst (AreFirst AreBefore (ReadsPieces c.args.sig.now c.args.metas.now ts (p ∷ reverse (take j ps)))) (sym c.in_ok-found.ensures)
-    (slot_more c.args.sig.now c.args.metas.now ts p (reverse (take j ps)) _ _ bodies c.loop-piece.invariant))
+pub parts-loop-slot-init : goal.parts-loop-slot-init
+parts-loop-slot-init t c =
+    let sheet = c.args.sheet.now in
+    rw c.new.ensures (no_slots sheet.sig.now sheet.metas.now (tokens_of sheet) (in_scope c.args.vars.now) (map variable c.args.own.now))
+
+pub parts-loop-slot-preserved : goal.parts-loop-slot-preserved
+parts-loop-slot-preserved t c =
+    let sheet = c.args.sheet.now in
+    let vars = in_scope c.args.vars.now in
+    let own = map variable c.args.own.now in
+    let slots = c.args.slots.now in
+    let j = c.loop-slot.slot-index in
+    let p : Piece = get_or slots j no_piece in
+    let front = map slot_range (take j slots) in
+    let Reads = ReadsPieces sheet.sig.now sheet.metas.now (tokens_of sheet) vars own in
+    let bodies : AreFirst IsBefore (ReadsTermAt sheet.sig.now sheet.metas.now (slot_variables own p.binds.now ++ vars) p.cat.0 (slice_range (tokens_of sheet) p.from p.to)) (listed scheme c.in_ok-more.more) =
+    rw (c.as_slice.ensures, c.in_ok-scope.ensures) at c.in_ok-more.ensures in
+    subst (λ qs. AreFirst AreBefore (Reads qs) (listed scheme_parts c.in_ok-found.found)) (sym (map_more slot_range slots j no_piece c.loop-slot-test.true))
+    (rw c.in_ok-found.ensures
+    (slot_more sheet.sig.now sheet.metas.now (tokens_of sheet) vars own front (slot_range p) _ _ c.loop-slot.invariant bodies))
 
 pub parts-returns-then-is_nothing : goal.parts-returns-then-is_nothing
 parts-returns-then-is_nothing t c =
-    none_read c.args.sig.now c.args.metas.now (map token c.args.tokens.now) c.args.pieces.now c.loop-piece.piece-index _ c.loop-piece.invariant
-    (c.is_nothing.ensures.0 c.if-is_nothing.true)
+    let sheet = c.args.sheet.now in
+    let slots = c.args.slots.now in
+    let j = c.loop-slot.slot-index in
+    let Reads = ReadsPieces sheet.sig.now sheet.metas.now (tokens_of sheet) (in_scope c.args.vars.now) (map variable c.args.own.now) in
+    subst (λ qs. AreFirst AreBefore (Reads qs) (listed scheme_parts c.loop-slot.found)) (sym (mapped_parts slot_range slots j))
+    (none_read sheet.sig.now sheet.metas.now (tokens_of sheet) (in_scope c.args.vars.now) (map variable c.args.own.now) (map slot_range (take j slots)) (map slot_range (drop j slots)) _
+    c.loop-slot.invariant (c.is_nothing.ensures.0 c.if-is_nothing.true))
 
-pub made-parts-requires : goal.made-parts-requires
-made-parts-requires t c =
-    let ts = map token c.args.tokens.now in
-    let all = c.as_slice-all.result.now in
-    let splits : AreSplits ts c.args.items.now 0 (map reverse all) = rw c.as_slice-all.ensures c.in_ok-kept.ensures in
-    let split = split_at ts c.args.items.now all c.loop-split.split-index c.split-item.result splits c.loop-split-test.true c.split-item.is in
-    let short : longest (reverse c.as_slice.result.now) < length ts = rw c.as_slice.ensures (longest_short ts c.args.items.now _ c.requires.some c.requires.not_single split) in
-    let within : AreWithin (length c.args.tokens.now) (reverse c.as_slice.result.now) =
-    rw c.as_slice.ensures (subst (λ n. AreWithin n (reverse c.split-item.result)) (length-map c.args.tokens.now token) (split_within ts c.args.items.now 0 _ split)) in
-    (omega (arith, c.decreases, length-map c.args.tokens.now token), (c.requires.plain, within))
+pub parts-returns : goal.parts-returns
+parts-returns t c =
+    let whole : take c.loop-slot.slot-index c.args.slots.now ≡ c.args.slots.now = take_all c.loop-slot.slot-index c.args.slots.now c.loop-slot-test.false in
+    rw whole at c.loop-slot.invariant
 
-pub made-loop-split-preserved : goal.made-loop-split-preserved
-made-loop-split-preserved t c =
-    let ts = map token c.args.tokens.now in
-    let all = c.as_slice-all.result.now in
-    let splits : AreSplits ts c.args.items.now 0 (map reverse all) = rw c.as_slice-all.ensures c.in_ok-kept.ensures in
-    made_more c.args.sig.now c.args.metas.now (3 + c.args.prod.0) c.args.prod.0 ts c.args.items.now all c.loop-split.split-index c.split-item.result
-    _ _ _ _ splits c.loop-split-test.true c.split-item.is c.loop-split.invariant (rw c.as_slice.ensures at c.in_ok-slots.ensures) c.in_ok-more.ensures c.joined-found.ensures
+pub in_splits-parts-requires : goal.in_splits-parts-requires
+in_splits-parts-requires t c =
+    let sheet = c.args.sheet.now in
+    let all = c.args.all.now in
+    let j = c.loop-split.split-index in
+    let here = c.split-item.result in
+    let usable = split_at (λ (d : Divided). AreKnown sheet d.0 × AreWithin (length sheet.tokens.now) d.1) all j here c.loop-split-test.true c.split-item.is c.requires.usable in
+    let short = reach_at all j here c.loop-split-test.true c.split-item.is in
+    let long : longest (map slot_range c.as_slice-in-loop-split.result.now) + 1 ≤ reach (map split all) = rw c.as_slice-in-loop-split.ensures short in
+    (omega (arith, c.decreases, long), (c.requires.sheet, (c.requires.vars, (rw c.as_slice.ensures usable.0, rw c.as_slice-in-loop-split.ensures usable.1))))
 
-pub made-returns-then-is_full : goal.made-returns-then-is_full
-made-returns-then-is_full t c =
-    let ts = map token c.args.tokens.now in
-    let all = c.as_slice-all.result.now in
-    let splits : AreSplits ts c.args.items.now 0 (map reverse all) = rw c.as_slice-all.ensures c.in_ok-kept.ensures in
-    made_enough c.args.sig.now c.args.metas.now (3 + c.args.prod.0) c.args.prod.0 ts c.args.items.now all c.loop-split.split-index c.loop-split.found
-    c.requires.plain splits (c.is_full.ensures.0 c.if-is_full.true) c.loop-split.invariant
+pub in_splits-loop-split-init : goal.in_splits-loop-split-init
+in_splits-loop-split-init t c = λ a. made_in_none c.args.sheet.now (in_scope c.args.vars.now) a c.args.head
+
+pub in_splits-loop-split-preserved : goal.in_splits-loop-split-preserved
+in_splits-loop-split-preserved t c = λ a.
+    made_more c.args.sheet.now (in_scope c.args.vars.now) a c.args.head c.args.all.now c.loop-split.split-index c.split-item.result _ _ _ _ c.requires.in_order
+    c.loop-split-test.true c.split-item.is (c.loop-split.invariant a) (rw (c.as_slice.ensures, c.as_slice-in-loop-split.ensures) at c.in_ok-slots.ensures) c.in_ok-more.ensures c.joined-found.ensures
+
+pub in_splits-returns-then-is_full : goal.in_splits-returns-then-is_full
+in_splits-returns-then-is_full t c = λ a.
+    made_enough c.args.sheet.now (in_scope c.args.vars.now) a c.args.head c.args.all.now c.loop-split.split-index c.loop-split.found c.requires.in_order
+    (c.is_full.ensures.0 c.if-is_full.true) (c.loop-split.invariant a)
+
+pub in_splits-returns : goal.in_splits-returns
+in_splits-returns t c =
+    let whole : take c.loop-split.split-index c.args.all.now ≡ c.args.all.now = take_all c.loop-split.split-index c.args.all.now c.loop-split-test.false in
+    rw whole at c.loop-split.invariant
+
+pub name-in_splits-requires : goal.name-in_splits-requires
+name-in_splits-requires t c =
+    let sheet = c.args.sheet.now in
+    let end : c.args.from + 1 ≤ c.args.to = omega arith in
+    let usable = usable_brackets sheet (c.args.from + 1) c.args.to c.requires.range.1 _ _ c.in_ok-all.ensures in
+    let short = reach_brackets sheet (c.args.from + 1) c.args.to c.requires.range.1 _ _ end c.in_ok-all.ensures in
+    let long : reach (map split c.as_slice-2.result.now) ≤ c.args.to - (c.args.from + 1) + 1 = rw c.as_slice-2.ensures short in
+    (omega (arith, c.decreases, long), (c.requires.sheet, (c.requires.vars, (rw c.as_slice-2.ensures usable, rw c.as_slice-2.ensures (c.in_ok-all.ensures).in_order))))
+
+pub name-returns-then-from-to : goal.name-returns-then-from-to
+name-returns-then-from-to t c =
+    let sheet = c.args.sheet.now in
+    no_name_here sheet (in_scope c.args.vars.now) c.args.from c.args.to c.requires.range.0 c.requires.range.1 c.args.m c.args.decl.now c.args.cat.0
+    (λ lt e. omega arith)
+
+pub name-returns-then-decl-cat : goal.name-returns-then-decl-cat
+name-returns-then-decl-cat t c = λ w s h. absurd (c.if-decl-cat.true h.5)
+
+pub name-returns-then-not-is_word : goal.name-returns-then-not-is_word
+name-returns-then-not-is_word t c =
+    let sheet = c.args.sheet.now in
+    let l : c.args.from < length sheet.tokens.now = omega arith in
+    let here = get_or sheet.tokens.now c.args.from no_token in
+    no_name_here sheet (in_scope c.args.vars.now) c.args.from c.args.to c.requires.range.0 c.requires.range.1 c.args.m c.args.decl.now c.args.cat.0
+    (λ lt e. (let two : Some (token here) ≡ Some (word c.args.decl.now.name) = sym (token_or_at token sheet.tokens.now c.args.from no_token l) ∙ e in
+    let same : token here ≡ word c.args.decl.now.name = cc in
+    true≢false (sym (c.is_word.ensures.1 (rw c.bytes.ensures same)) ∙ c.if-not-is_word.true)))
+
+pub name-returns : goal.name-returns
+name-returns t c =
+    let sheet = c.args.sheet.now in
+    let l : c.args.from < length sheet.tokens.now = omega arith in
+    let lt : c.args.from < c.args.to = omega arith in
+    let here = get_or sheet.tokens.now c.args.from no_token in
+    let this : token here ≡ word c.args.decl.now.name = rw c.bytes.ensures at (c.is_word.ensures.0 c.if-not-is_word.false) in
+    let found : slice_get (tokens_of sheet) c.args.from ≡ Some (word c.args.decl.now.name) = token_or_at token sheet.tokens.now c.args.from no_token l ∙ ap Some this in
+    if_ok c.in_splits.result _ _ (λ more f. name_read sheet (in_scope c.args.vars.now) c.requires.vars c.args.from c.args.to c.requires.range.1 c.args.m c.args.decl.now c.args.cat.0 _ _ _
+    c.in_ok-number.ensures c.if-decl-cat.false lt found (rw c.as_slice.ensures at c.in_ok-all.ensures) (f 1))
+    (rw c.as_slice-2.ensures at c.in_splits.ensures)
+
+pub names-loop-m-preserved : goal.names-loop-m-preserved
+names-loop-m-preserved t c =
+    let sheet = c.args.sheet.now in
+    let sig = sheet.sig.now in
+    let vars = in_scope c.args.vars.now in
+    let us = slice_range (tokens_of sheet) c.args.from c.args.to in
+    let ms = sheet.metas.now in
+    let decl = c.index-metas-m.result in
+    let found = slice_get_read ms _ c.loop-m.m decl refl c.loop-m-test.true c.index-metas-m.is in
+    AreFirst-same IsBefore _ (IsNameBelow (c.loop-m.m + 1) sig ms vars c.args.cat.0 us) _ (λ w s. one_name_more sig ms vars c.args.cat.0 us c.loop-m.m decl w s found)
+    (AreFirst-joined IsBefore (IsNameBelow c.loop-m.m sig ms vars c.args.cat.0 us) (IsNameOf sig ms vars c.loop-m.m decl c.args.cat.0 us) _ _ _
+    (names_apart sig ms vars c.args.cat.0 us c.loop-m.m decl c.requires.sheet.names found) c.joined-found.ensures c.loop-m.invariant c.in_ok-more.ensures)
+
+pub names-returns : goal.names-returns
+names-returns t c =
+    let sheet = c.args.sheet.now in
+    let vars = in_scope c.args.vars.now in
+    let us = slice_range (tokens_of sheet) c.args.from c.args.to in
+    AreFirst-same IsBefore _ (IsName sheet.sig.now sheet.metas.now vars c.args.cat.0 us) _
+    (λ w s. all_names sheet.sig.now sheet.metas.now vars c.args.cat.0 us c.loop-m.m w s c.loop-m-test.false) c.loop-m.invariant
+
+pub made-in_splits-requires : goal.made-in_splits-requires
+made-in_splits-requires t c =
+    let sheet = c.args.sheet.now in
+    let usable = usable_splits sheet c.args.from c.args.to c.requires.range.1 c.args.items.now _ c.in_ok-all.ensures in
+    let short = reach_splits sheet c.args.from c.args.to c.requires.range.1 c.args.items.now _ c.requires.some c.requires.not_single c.in_ok-all.ensures in
+    let long : reach (map split c.as_slice.result.now) ≤ c.args.to - c.args.from = rw c.as_slice.ensures short in
+    (omega (arith, c.decreases, long), (c.requires.sheet, (c.requires.vars, (rw c.as_slice.ensures usable, rw c.as_slice.ensures (c.in_ok-all.ensures).in_order))))
 
 pub made-returns : goal.made-returns
 made-returns t c =
-    let ts = map token c.args.tokens.now in
-    let all = c.as_slice-all.result.now in
-    let splits : AreSplits ts c.args.items.now 0 (map reverse all) = rw c.as_slice-all.ensures c.in_ok-kept.ensures in
-    let whole : take c.loop-split.split-index all ≡ all = take_all c.loop-split.split-index all c.loop-split-test.false in
-    AreFirst-same IsBefore _ (IsMade c.args.sig.now c.args.metas.now (3 + c.args.prod.0) c.args.prod.0 c.args.items.now ts) _
-    (λ w s. made_in_splits c.args.sig.now c.args.metas.now (3 + c.args.prod.0) c.args.prod.0 c.args.items.now ts (map reverse all) w s c.requires.plain splits)
-    (subst (λ qs. AreFirst IsBefore (IsMadeIn c.args.sig.now c.args.metas.now (3 + c.args.prod.0) c.args.prod.0 ts (map reverse qs)) (listed scheme c.loop-split.found))
-    whole c.loop-split.invariant)
+    let sheet = c.args.sheet.now in
+    let vars = in_scope c.args.vars.now in
+    let within : c.args.to ≤ length (tokens_of sheet) = omega (arith, length-map sheet.tokens.now token) in
+    if_ok c.in_splits.result _ _ (λ found f. AreFirst-same IsBefore _
+    (IsMade sheet.sig.now sheet.metas.now vars (3 + c.args.prod.0) c.args.prod.0 c.args.items.now (slice_range (tokens_of sheet) c.args.from c.args.to)) (listed scheme found)
+    (λ w s. made_in_splits sheet vars c.requires.vars c.args.from c.args.to c.requires.range.0 within (3 + c.args.prod.0) c.args.prod c.args.items.now _ w s c.in_ok-all.ensures)
+    (f (3 + c.args.prod.0)))
+    (rw c.as_slice.ensures at c.in_splits.ensures)
+
+pub product-returns-then-prod-cat : goal.product-returns-then-prod-cat
+product-returns-then-prod-cat t c =
+    let sheet = c.args.sheet.now in
+    let prod = c.index-prod.result.now in
+    let found : slice_get sheet.sig.now.prods c.args.p ≡ Some prod =
+    slice_get_read sheet.sig.now.prods _ c.args.p prod refl c.requires.prod (rw c.prods.ensures.value at c.index-prod.ensures) in
+    no_product_of sheet.sig.now sheet.metas.now (in_scope c.args.vars.now) c.args.cat.0 (slice_range (tokens_of sheet) c.args.from c.args.to) c.args.p prod found c.if-prod-cat.true
 
 pub product-returns : goal.product-returns
 product-returns t c =
-    let sig = c.args.sig.now in
-    let ts = map token c.args.tokens.now in
+    let sheet = c.args.sheet.now in
+    let vars = in_scope c.args.vars.now in
+    let us = slice_range (tokens_of sheet) c.args.from c.args.to in
     let prod = c.index-prod.result.now in
-    let found : slice_get sig.prods c.args.p ≡ Some prod =
-    slice_get_read sig.prods _ c.args.p prod refl c.requires.within (rw c.prods.ensures.value at c.index-prod.ensures) in
-    if_ok c.made.result _ _ (λ more f. AreFirst-same IsBefore _ (IsProduct sig c.args.metas.now c.args.p c.args.cat.0 ts) _
-    (λ w s. is_product sig c.args.metas.now c.args.p c.args.cat.0 ts prod w s found c.if-prod-cat.false) f)
+    let found : slice_get sheet.sig.now.prods c.args.p ≡ Some prod =
+    slice_get_read sheet.sig.now.prods _ c.args.p prod refl c.requires.prod (rw c.prods.ensures.value at c.index-prod.ensures) in
+    if_ok c.made.result _ _ (λ more f. AreFirst-same IsBefore _ (IsProduct sheet.sig.now sheet.metas.now vars c.args.p c.args.cat.0 us) _
+    (λ w s. is_product sheet.sig.now sheet.metas.now vars c.args.cat.0 us c.args.p prod w s found c.if-prod-cat.false) f)
     (rw (c.in_ok-number.ensures, c.as_slice.ensures) at c.made.ensures)
+
+pub group-returns-then-to-from-lt2 : goal.group-returns-then-to-from-lt2
+group-returns-then-to-from-lt2 t c =
+    group_short c.args.sheet.now (in_scope c.args.vars.now) c.args.from c.args.to c.requires.range.0 c.requires.range.1 c.args.cat.0 c.if-to-from-lt2.true
+
+pub group-returns-then-not-has : goal.group-returns-then-not-has
+group-returns-then-not-has t c =
+    no_group c.args.sheet.now (in_scope c.args.vars.now) c.args.from c.args.to c.requires.range.0 c.requires.range.1 c.args.cat.0
+    (λ e f. true≢false (sym (c.has.ensures.1 e) ∙ c.if-not-has.true))
+
+pub group-returns-then-not-has-2 : goal.group-returns-then-not-has-2
+group-returns-then-not-has-2 t c =
+    no_group c.args.sheet.now (in_scope c.args.vars.now) c.args.from c.args.to c.requires.range.0 c.requires.range.1 c.args.cat.0
+    (λ e f. true≢false (sym (c.has-2.ensures.1 f) ∙ c.if-not-has-2.true))
 
 pub group-returns : goal.group-returns
 group-returns t c =
-    let sig = c.args.sig.now in
-    let tokens = c.args.tokens.now in
-    let ts = map token tokens in
-    let d = token no_token in
-    let n = length tokens in
-    let some : 0 < n = omega arith in
-    let end : n - 1 < n = omega arith in
-    let two : 2 ≤ length ts = omega (arith, length-map tokens token) in
-    let first : get_or ts 0 d ≡ punctuation 40 = get_or-map token tokens 0 no_token d some ∙ c.is_punctuation.ensures.0 c.if-not-is_punctuation.false in
-    let last : get_or ts (length ts - 1) d ≡ punctuation 41 =
-    ap (λ m. get_or ts (m - 1) d) (length-map tokens token) ∙ get_or-map token tokens (n - 1) no_token d end ∙ c.is_punctuation-2.ensures.0 c.if-not-is_punctuation-2.false in
-    let inner : map token (slice_range tokens 1 (n - 1)) ≡ slice_range ts 1 (length ts - 1) =
-    map_slice token tokens 1 (n - 1) ∙ ap (λ m. slice_range ts 1 (m - 1)) (sym (length-map tokens token)) in
-    if_ok c.terms.result _ _ (λ found f. group_read sig c.args.metas.now c.args.cat.0 ts d (listed scheme found) two first last
-    (subst (λ us. AreFirst IsBefore (ReadsTermAt sig c.args.metas.now [] c.args.cat.0 us) (listed scheme found)) inner f))
+    let two : c.args.from + 2 ≤ c.args.to = omega arith in
+    if_ok c.terms.result _ _ (λ found f. group_in_range c.args.sheet.now (in_scope c.args.vars.now) c.args.from c.args.to c.requires.range.0 c.requires.range.1 c.args.cat.0 _ two
+    (c.has.ensures.0 c.if-not-has.false) (c.has-2.ensures.0 c.if-not-has-2.false) f)
     c.terms.ensures
 
 pub terms-loop-p-init : goal.terms-loop-p-init
 terms-loop-p-init t c =
-    let sig = c.args.sig.now in
-    let ts = map token c.args.tokens.now in
-    AreFirst-same IsBefore _ (IsReadBelow 0 sig c.args.metas.now c.args.cat.0 ts) _ (λ w s. no_product sig c.args.metas.now c.args.cat.0 ts w s)
-    (AreFirst-joined IsBefore (IsGroup sig c.args.metas.now c.args.cat.0 ts) (IsName c.args.metas.now c.args.cat.0 ts) _ _ _
-    (groups_first sig c.args.metas.now c.args.cat.0 ts) c.joined-found.ensures c.in_ok-groups.ensures c.in_ok-named.ensures)
+    let sheet = c.args.sheet.now in
+    let sig = sheet.sig.now in
+    let ms = sheet.metas.now in
+    let vars = in_scope c.args.vars.now in
+    let cat = c.args.cat.0 in
+    let us = slice_range (tokens_of sheet) c.args.from c.args.to in
+    AreFirst-same IsBefore _ (IsReadBelow 0 sig ms vars cat us) _ (λ w s. no_product sig ms vars cat us w s)
+    (AreFirst-joined IsBefore (λ w s. IsGroup sig ms vars cat us w s ⊎ IsName sig ms vars cat us w s) (IsVariable vars cat us) _ _ _
+    (variables_last sig ms vars cat us) c.joined-found.ensures
+    (AreFirst-joined IsBefore (IsGroup sig ms vars cat us) (IsName sig ms vars cat us) _ _ _
+    (groups_first sig ms vars cat us) c.joined.ensures c.in_ok-groups.ensures c.in_ok-named.ensures)
+    c.variables-bound.ensures)
 
 pub terms-loop-p-preserved : goal.terms-loop-p-preserved
 terms-loop-p-preserved t c =
-    let sig = c.args.sig.now in
-    let ts = map token c.args.tokens.now in
+    let sheet = c.args.sheet.now in
+    let sig = sheet.sig.now in
+    let ms = sheet.metas.now in
+    let vars = in_scope c.args.vars.now in
+    let cat = c.args.cat.0 in
+    let us = slice_range (tokens_of sheet) c.args.from c.args.to in
     let same : c.loop-p.p ≤ c.loop-p.p = omega arith in
-    AreFirst-same IsBefore _ (IsReadBelow (c.loop-p.p + 1) sig c.args.metas.now c.args.cat.0 ts) _ (λ w s. one_product_more sig c.args.metas.now c.args.cat.0 ts c.loop-p.p w s)
-    (AreFirst-joined IsBefore (IsReadBelow c.loop-p.p sig c.args.metas.now c.args.cat.0 ts) (IsProduct sig c.args.metas.now c.loop-p.p c.args.cat.0 ts) _ _ _
-    (products_apart sig c.args.metas.now c.args.cat.0 ts c.loop-p.p c.loop-p.p same) c.joined-found-in-loop-p.ensures c.loop-p.invariant c.in_ok-more.ensures)
+    AreFirst-same IsBefore _ (IsReadBelow (c.loop-p.p + 1) sig ms vars cat us) _ (λ w s. one_product_more sig ms vars cat us c.loop-p.p w s)
+    (AreFirst-joined IsBefore (IsReadBelow c.loop-p.p sig ms vars cat us) (IsProduct sig ms vars c.loop-p.p cat us) _ _ _
+    (products_apart sig ms vars cat us c.loop-p.p c.loop-p.p same) c.joined-found-in-loop-p.ensures c.loop-p.invariant c.in_ok-more.ensures)
 
 pub terms-returns-then-is_full : goal.terms-returns-then-is_full
 terms-returns-then-is_full t c =
-    read_enough c.args.sig.now c.args.metas.now c.args.cat.0 (map token c.args.tokens.now) c.loop-p.p c.loop-p.found c.requires (c.is_full.ensures.0 c.if-is_full.true) c.loop-p.invariant
+    let sheet = c.args.sheet.now in
+    read_enough sheet.sig.now sheet.metas.now (in_scope c.args.vars.now) c.args.cat.0 (slice_range (tokens_of sheet) c.args.from c.args.to) c.loop-p.p c.loop-p.found
+    (c.is_full.ensures.0 c.if-is_full.true) c.loop-p.invariant
 
 pub terms-returns : goal.terms-returns
 terms-returns t c =
-    let sig = c.args.sig.now in
-    let ts = map token c.args.tokens.now in
+    let sheet = c.args.sheet.now in
+    let sig = sheet.sig.now in
+    let vars = in_scope c.args.vars.now in
+    let us = slice_range (tokens_of sheet) c.args.from c.args.to in
     let all : length sig.prods ≤ c.loop-p.p = omega (arith, ap length c.prods.ensures.value) in
-    AreFirst-same IsBefore _ (ReadsTermAt sig c.args.metas.now [] c.args.cat.0 ts) _ (λ w s. term_read sig c.args.metas.now c.args.cat.0 ts c.loop-p.p w s c.requires all) c.loop-p.invariant
+    AreFirst-same IsBefore _ (ReadsTermAt sig sheet.metas.now vars c.args.cat.0 us) _ (λ w s. term_read sig sheet.metas.now vars c.args.cat.0 us c.loop-p.p w s all) c.loop-p.invariant

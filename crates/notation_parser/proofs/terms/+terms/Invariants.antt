@@ -1,35 +1,50 @@
-use Rattle.std.proofs.Common.{◌+◌, ◌*◌, length, map, reverse, take}
-use Rattle.scheme_terms.specs.View.{scheme}
-use Rattle.notation_parser.specs.Cases.{IsReadBelow}
-use Rattle.notation_parser.specs.Firsts.{listed, AreFirst, backwards}
-use Rattle.notation_parser.specs.Splitting.{longest, ReadsPieces}
+use Rattle.std.proofs.Common.{ℕ, ◌+◌, ◌-◌, ◌*◌, map, take, slice_range}
+use Rattle.scheme_terms.specs.View.{scheme, scheme_parts}
+use Rattle.notation_parser.specs.Cases.{IsNameBelow, IsReadBelow}
+use Rattle.notation_parser.specs.Firsts.{listed, AreFirst}
+use Rattle.notation_parser.specs.Splitting.{tokens_of, slot_range, split, longest, reach, ReadsPieces, IsMadeIn}
 use Rattle.rule_schemes.specs.Said.{IsBefore, AreBefore}
-use Rattle.notation_parser.specs.View.{token}
-use Rattle.notation_parser.proofs.TermCases.{IsMadeIn}
+use Rattle.notation_parser.specs.View.{variable, in_scope}
 use Rattle.notation_parser.proofs.terms.+terms.Given as goal
 
 abbrev pub decreases-terms : goal.decreases-terms
-decreases-terms l = 4 * length l.tokens.now + 3
+decreases-terms l = 8 * (l.to - l.from) + 7
 
 abbrev pub decreases-group : goal.decreases-group
-decreases-group l = 4 * length l.tokens.now + 2
+decreases-group l = 8 * (l.to - l.from) + 2
+
+abbrev pub decreases-name : goal.decreases-name
+decreases-name l = 8 * (l.to - l.from) + 2
+
+abbrev pub decreases-names : goal.decreases-names
+decreases-names l = 8 * (l.to - l.from) + 3
 
 abbrev pub decreases-product : goal.decreases-product
-decreases-product l = 4 * length l.tokens.now + 2
+decreases-product l = 8 * (l.to - l.from) + 3
 
 abbrev pub decreases-made : goal.decreases-made
-decreases-made l = 4 * length l.tokens.now + 1
+decreases-made l = 8 * (l.to - l.from) + 2
+
+abbrev pub decreases-in_splits : goal.decreases-in_splits
+decreases-in_splits l = 8 * reach (map split l.all.now) + 1
 
 abbrev pub decreases-parts : goal.decreases-parts
-decreases-parts l = 4 * longest (reverse l.pieces.now) + 4
+decreases-parts l = 8 * longest (map slot_range l.slots.now) + 8
 
-abbrev pub invariant-parts-loop-piece : goal.invariant-parts-loop-piece
-invariant-parts-loop-piece l =
-    AreFirst AreBefore (ReadsPieces l.sig l.metas (map token l.tokens) (reverse (take l.piece-index l.pieces))) (listed backwards l.found)
+abbrev pub invariant-parts-loop-slot : goal.invariant-parts-loop-slot
+invariant-parts-loop-slot l =
+    AreFirst AreBefore
+    (ReadsPieces l.sheet.sig.now l.sheet.metas.now (tokens_of l.sheet) (in_scope l.vars) (map variable l.own) (map slot_range (take l.slot-index l.slots)))
+    (listed scheme_parts l.found)
 
-abbrev pub invariant-made-loop-split : goal.invariant-made-loop-split
-invariant-made-loop-split l =
-    AreFirst IsBefore (IsMadeIn l.sig l.metas (3 + l.prod.0) l.prod.0 (map token l.tokens) (map reverse (take l.split-index l.all))) (listed scheme l.found)
+abbrev pub invariant-in_splits-loop-split : goal.invariant-in_splits-loop-split
+invariant-in_splits-loop-split l = (alternative : ℕ) →
+    AreFirst IsBefore (IsMadeIn l.sheet (in_scope l.vars) alternative l.head (map split (take l.split-index l.all))) (listed scheme l.found)
+
+abbrev pub invariant-names-loop-m : goal.invariant-names-loop-m
+invariant-names-loop-m l =
+    AreFirst IsBefore (IsNameBelow l.m l.sheet.sig.now l.sheet.metas.now (in_scope l.vars) l.cat.0 (slice_range (tokens_of l.sheet) l.from l.to)) (listed scheme l.found)
 
 abbrev pub invariant-terms-loop-p : goal.invariant-terms-loop-p
-invariant-terms-loop-p l = AreFirst IsBefore (IsReadBelow l.p l.sig l.metas l.cat.0 (map token l.tokens)) (listed scheme l.found)
+invariant-terms-loop-p l =
+    AreFirst IsBefore (IsReadBelow l.p l.sheet.sig.now l.sheet.metas.now (in_scope l.vars) l.cat.0 (slice_range (tokens_of l.sheet) l.from l.to)) (listed scheme l.found)

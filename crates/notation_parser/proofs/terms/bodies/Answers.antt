@@ -1,8 +1,8 @@
 use Rattle.std.proofs.Common.{◌≡◌, map, take, ◌∙◌}
 use Rattle.std.proofs.lemmas.List.{take_all}
 use Rattle.scheme_terms.specs.View.{scheme_part}
-use Rattle.notation_parser.proofs.FormCases.{bare_parts}
-use Rattle.notation_parser.proofs.judgments.bodies.Goals as goal
+use Rattle.notation_parser.proofs.PartLemmas.{bare_parts}
+use Rattle.notation_parser.proofs.terms.bodies.Goals as goal
 
 pub returns : goal.returns
 returns c =
