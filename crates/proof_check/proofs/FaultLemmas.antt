@@ -1,8 +1,9 @@
--- A source has one first fault at most.
-use Rattle.std.proofs.Common.{◌≡◌, ℕ, zero, suc, ◌+◌, List, [], ◌∷◌, map, Option, Some, None, Err, refl, sym, ◌∙◌, ap, subst}
-use Rattle.std.specs.Prelude.{slice_get, MatchOption}
-use Rattle.sy_base.specs.Tokens.{PlainToken, AreTokens, TokenFault}
-use Rattle.sy_base.specs.TokenLaws.{TokensAreUnique, FaultIsUnique, TokensExcludeFault}
+-- A source has one first fault at most, and a right file has none.
+use native.Mathlib.Omega.{arith}
+use Rattle.std.proofs.Common.{◌≡◌, ◌⊎◌, ◌<◌, ◌≤◌, ℕ, zero, suc, ◌+◌, List, [], ◌∷◌, map, Option, Some, None, Ok, Err, inl, inr, refl, sym, ◌∙◌, ap, subst}
+use Rattle.std.specs.Prelude.{slice_get, MatchOption, IfErr, IsErrOf, Result}
+use Rattle.sy_base.specs.Tokens.{PlainToken, AreTokens, TokenFault, HasFault}
+use Rattle.proof_lexer.proofs.UniqueLemmas.{tokens_unique, fault_unique, tokens_exclude}
 use Rattle.proof_lexer.specs.View.{kind_number, token_view}
 use Rattle.proof_lexer.specs.declared.token.Kind.{Kind}
 use Rattle.proof_lexer.specs.declared.token.Kind.TheVariants as kind
@@ -17,13 +18,30 @@ use Rattle.outline_reader.specs.Derives.{level, whole}
 use Rattle.outline_reader.specs.Limits.{nothing_counted, counted}
 use Rattle.outline_reader.specs.Machine.{take}
 use Rattle.outline_reader.specs.Reading.{Answer, read, roles, with_roles, first_fault}
-use Rattle.outline_reader.specs.Outline.{IsAnswer, IsFault}
+use Rattle.outline_reader.specs.Outline.{IsAnswer, IsFault, IsOutline}
+use Rattle.outline_reader.specs.declared.parts.Outline.{Outline}
+use Rattle.outline_reader.specs.declared.parts.Portion.{Portion}
+use Rattle.outline_reader.specs.Plain.{PlainPortion, plain_portion, outlined, HasPortions}
+use Rattle.outline_reader.specs.Views.{Piece, portion_view}
+use Rattle.outline_reader.proofs.UniqueLemmas.{portions_unique}
 use Rattle.outline_reader.proofs.ReadingLemmas.{seen_as}
 use Rattle.outline_reader.proofs.AnswerLemmas.{answer_is_read, read_is_answer}
 use Rattle.outline_reader.proofs.FieldLemmas.{placeless, all_placeless}
 use Rattle.sy_base.specs.declared.fault.Code.{Code}
 use Rattle.sy_base.specs.declared.fault.Code.TheVariants as variant
-use Rattle.proof_check.specs.Faults.{IsToldAt, IsToldOn, IsOutlineTold, IsFirstFault, of_tokens, of_outline, fault_place, fault_code, fault_lines, IsFaultText, HasNoFaultYet}
+use Rattle.sy_base.specs.CodeName.{code_name}
+use Rattle.user_grammar.specs.Fault.{IsFirstFault as IsFirstOfGrammar}
+use Rattle.user_grammar.specs.Grammar.{IsSignatureOf}
+use Rattle.user_grammar.specs.Laws.{FaultyFilesHaveNoSignature}
+use Rattle.sy_base.specs.declared.fault.Fault.{Fault}
+use Rattle.sy_base.specs.declared.fault.Refusal.{Refusal}
+use Rattle.sy_base.specs.declared.fault.Refusal.TheVariants.{Refused, NoMemory as OutOfMemory}
+use Rattle.binding_terms.specs.Signature.{Signature}
+use Rattle.proof_check.specs.File.{IsRightFile, IsSomeRight, IsGrammarFile}
+use Rattle.proof_check.specs.NotBuilt.{IsNotBuilt, by_its_token, of_a_judgment, HasNotBuilt, IsFirstNotBuilt}
+use Rattle.proof_check.specs.Faults.{IsToldAt, IsToldOn, IsOutlineTold, HasOutlineFault, IsFirstFault, of_tokens, of_outline, of_not_built, of_grammar, fault_place, fault_code, fault_lines, IsFaultText, HasNoFaultYet, IsRefusedWith}
+use Rattle.proof_check.proofs.TokenLemmas.{one_first_not_built}
+use Rattle.proof_check.proofs.GrammarLemmas.{one_grammar_fault}
 
 -- ---- the answer of an outline does not depend on where the tokens lie
 
@@ -123,31 +141,137 @@ same_outline tokens (MissingEnd at part) line other spelling others detail other
 same_outline tokens (TooMany at limit) line other spelling others detail others_detail one two = same_on _ _ _ _ _ _ _ _ _ one two
 same_outline tokens NoMemory line other spelling others detail others_detail one two = absurd one
 
-first_is_one : (source : List ℕ) (line other : ℕ) (spelling others detail others_detail : List ℕ) → TokensAreUnique → FaultIsUnique → TokensExcludeFault →
-    IsFirstFault source line spelling detail → IsFirstFault source other others others_detail → AreSame line other spelling others detail others_detail
-first_is_one source line other spelling others detail others_detail one_list one_of_tokens apart (of_tokens fault has told) (of_tokens second has_second told_second) =
-    same_at source (fault_place fault) (fault_code fault) line other spelling others detail others_detail told
-    (subst (λ (f : TokenFault). IsToldAt source (fault_place f) (fault_code f) other others others_detail) (sym (one_of_tokens source fault second has has_second)) told_second)
-first_is_one source line other spelling others detail others_detail one_list one_of_tokens apart (of_tokens fault has told) (of_outline tokens second are is told_second) =
-    absurd (apart source _ fault are has)
-first_is_one source line other spelling others detail others_detail one_list one_of_tokens apart (of_outline tokens fault are is told) (of_tokens second has_second told_second) =
-    absurd (apart source _ second are has_second)
-first_is_one source line other spelling others detail others_detail one_list one_of_tokens apart (of_outline tokens fault are is told) (of_outline seconds second second_are second_is told_second) =
-    let same : map token_view tokens ≡ map token_view seconds = one_list source _ _ are second_are in
-    let same_fault : fault ≡ second = one_fault tokens seconds fault second same is second_is in
-    same_outline (map token_view tokens) fault line other spelling others detail others_detail told
-    (subst (λ (ts : List PlainToken). IsOutlineTold ts fault other others others_detail) (sym same)
-    (subst (λ (f : OutlineFault). IsOutlineTold (map token_view seconds) f other others others_detail) (sym same_fault) told_second))
+-- ---- what has tokens, an outline or portions
 
--- a source whose tokens have an outline has no fault
-pub no_fault_yet : (source : List ℕ) (tokens : List Token) → TokensAreUnique → TokensExcludeFault → AreTokens source (map token_view tokens) →
-    ((fault : OutlineFault) → IsFault tokens fault → ⊥) → HasNoFaultYet source
-no_fault_yet source tokens one_list apart are none line spelling detail (of_tokens fault has told) = apart source _ fault are has
-no_fault_yet source tokens one_list apart are none line spelling detail (of_outline others fault others_are is told) =
-    none fault (fault_of_others others tokens fault (one_list source _ _ others_are are) is)
+-- the tokens of a source that has a place that is not built
+tokens_of_not_built : (source : List ℕ) (token : PlainToken) → IsNotBuilt source token → (tokens : List PlainToken) × AreTokens source tokens
+tokens_of_not_built source token (by_its_token tokens front rest are split at) = (tokens, are)
+tokens_of_not_built source token (of_a_judgment portions has declares first) = (map token_view has.tokens, has.are_tokens)
+
+ok_is_no_err : (x : List Role) (y : OutlineFault) → (let a : Answer = Ok x in a) ≡ Err y → ⊥
+ok_is_no_err x y e = cc
+
+-- tokens with a fault of their outline have no outline
+no_outline : (tokens others : List Token) (fault : OutlineFault) (pieces : List Piece) → map token_view tokens ≡ map token_view others → IsFault tokens fault → IsOutline others pieces → ⊥
+no_outline tokens others fault pieces same is outline =
+    ok_is_no_err outline.0 fault (sym (answer_is_read others (Ok outline.0) outline.1) ∙ sym (same_roles tokens others same) ∙ answer_is_read tokens (Err fault) is)
+
+-- a source with portions has no fault of its outline
+pub portions_exclude : (source : List ℕ) (portions : List PlainPortion) (line : ℕ) (spelling detail : List ℕ) → HasPortions source portions → HasOutlineFault source line spelling detail → ⊥
+portions_exclude source portions line spelling detail has fault =
+    no_outline fault.tokens has.tokens fault.fault has.pieces (tokens_unique source _ _ fault.are_tokens has.are_tokens) fault.is_fault has.outline
+
+-- an outline of the tokens of a source gives its portions
+pub portions_of : (source : List ℕ) (tokens : List Token) → AreTokens source (map token_view tokens) → (outline : Outline) → IsOutline tokens (map portion_view outline.parts.items) →
+    HasPortions source (outlined outline)
+portions_of source tokens are outline is =
+    record { tokens = tokens; are_tokens = are; pieces = map portion_view outline.parts.items; outline = is; plain = plain_twice outline.parts.items }
+  where
+    plain_twice : (parts : List Portion) → map (λ portion. plain_portion (portion_view portion)) parts ≡ map plain_portion (map portion_view parts)
+    plain_twice [] = refl
+    plain_twice (part ∷ parts) = ap (λ rest. plain_portion (portion_view part) ∷ rest) (plain_twice parts)
+
+-- ---- one first fault
+
+pub same_outline_fault : (source : List ℕ) (line other : ℕ) (spelling others detail others_detail : List ℕ) → HasOutlineFault source line spelling detail → HasOutlineFault source other others others_detail →
+    AreSame line other spelling others detail others_detail
+same_outline_fault source line other spelling others detail others_detail one two =
+    let same : map token_view one.tokens ≡ map token_view two.tokens = tokens_unique source _ _ one.are_tokens two.are_tokens in
+    let same_fault : one.fault ≡ two.fault = one_fault one.tokens two.tokens one.fault two.fault same one.is_fault two.is_fault in
+    same_outline (map token_view one.tokens) one.fault line other spelling others detail others_detail one.told
+    (subst (λ (ts : List PlainToken). IsOutlineTold ts one.fault other others others_detail) (sym same)
+    (subst (λ (f : OutlineFault). IsOutlineTold (map token_view two.tokens) f other others others_detail) (sym same_fault) two.told))
+
+same_not_built : (source : List ℕ) (one two : PlainToken) (line other : ℕ) (spelling others detail others_detail : List ℕ) → IsFirstNotBuilt source one → IsFirstNotBuilt source two →
+    IsToldOn one.line variant.NotBuilt one.text line spelling detail → IsToldOn two.line variant.NotBuilt two.text other others others_detail → AreSame line other spelling others detail others_detail
+same_not_built source one two line other spelling others detail others_detail first second told other_told =
+    let same = one_first_not_built source one two first second in
+    same_on one.line variant.NotBuilt one.text line other spelling others detail others_detail told
+    (subst (λ (t : PlainToken). IsToldOn t.line variant.NotBuilt t.text other others others_detail) (sym same) other_told)
+
+not_before : (a b : ℕ) → a ≤ b → b < a → ⊥
+not_before a b le lt = (omega arith)
+
+-- a source with tokens has no fault of its tokens
+none_of_tokens : {A : Type 0} (source : List ℕ) (fault : TokenFault) (tokens : List PlainToken) → AreTokens source tokens → HasFault source fault → A
+none_of_tokens source fault tokens are has = absurd (tokens_exclude source tokens fault are has)
+
+first_is_one : (source : List ℕ) (line other : ℕ) (spelling others detail others_detail : List ℕ) →
+    IsFirstFault source line spelling detail → IsFirstFault source other others others_detail → AreSame line other spelling others detail others_detail
+first_is_one source line other spelling others detail others_detail (of_tokens fault has told) (of_tokens second has_second told_second) =
+    same_at source (fault_place fault) (fault_code fault) line other spelling others detail others_detail told
+    (subst (λ (f : TokenFault). IsToldAt source (fault_place f) (fault_code f) other others others_detail) (sym (fault_unique source fault second has has_second)) told_second)
+first_is_one source line other spelling others detail others_detail (of_tokens fault has told) (of_outline second first) = none_of_tokens source fault _ second.are_tokens has
+first_is_one source line other spelling others detail others_detail (of_tokens fault has told) (of_not_built token first before second) =
+    let tokens = tokens_of_not_built source token first.is in none_of_tokens source fault tokens.0 tokens.1 has
+first_is_one source line other spelling others detail others_detail (of_tokens fault has told) (of_grammar portions code has_portions built first is) =
+    none_of_tokens source fault _ has_portions.are_tokens has
+first_is_one source line other spelling others detail others_detail (of_outline one first) (of_tokens fault has told) = none_of_tokens source fault _ one.are_tokens has
+first_is_one source line other spelling others detail others_detail (of_outline one first) (of_outline two second) =
+    same_outline_fault source line other spelling others detail others_detail one two
+first_is_one source line other spelling others detail others_detail (of_outline one first) (of_not_built token second before told) =
+    absurd (not_before line token.line (first token second.is) (before line spelling detail one))
+first_is_one source line other spelling others detail others_detail (of_outline one first) (of_grammar portions code has_portions built second is) =
+    absurd (portions_exclude source portions line spelling detail has_portions one)
+first_is_one source line other spelling others detail others_detail (of_not_built token first before second) (of_tokens fault has told) =
+    let tokens = tokens_of_not_built source token first.is in none_of_tokens source fault tokens.0 tokens.1 has
+first_is_one source line other spelling others detail others_detail (of_not_built token second before told) (of_outline one first) =
+    absurd (not_before other token.line (first token second.is) (before other others others_detail one))
+first_is_one source line other spelling others detail others_detail (of_not_built token first before told) (of_not_built another second behind other_told) =
+    same_not_built source token another line other spelling others detail others_detail first second told other_told
+first_is_one source line other spelling others detail others_detail (of_not_built token first before told) (of_grammar portions code has_portions built second is) =
+    absurd (built (record { token = token; is = first.is }))
+first_is_one source line other spelling others detail others_detail (of_grammar portions code has_portions built first is) (of_tokens fault has told) =
+    none_of_tokens source fault _ has_portions.are_tokens has
+first_is_one source line other spelling others detail others_detail (of_grammar portions code has_portions built second is) (of_outline one first) =
+    absurd (portions_exclude source portions other others others_detail has_portions one)
+first_is_one source line other spelling others detail others_detail (of_grammar portions code has_portions built second is) (of_not_built token first before told) =
+    absurd (built (record { token = token; is = first.is }))
+first_is_one source line other spelling others detail others_detail (of_grammar portions code has built first is) (of_grammar other_portions other_code other_has other_built second other_is) =
+    let same : portions ≡ other_portions = portions_unique source portions other_portions has other_has in
+    let told = one_grammar_fault source portions has line other code other_code detail others_detail first
+    (subst (λ (ps : List PlainPortion). IsFirstOfGrammar ps other other_code others_detail) (sym same) second) in
+    (told.0, is ∙ ap code_name told.1 ∙ sym other_is, told.2)
 
 -- a source has one text of its first fault
-pub one_fault_text : (source : List ℕ) → TokensAreUnique → FaultIsUnique → TokensExcludeFault → (text other : List ℕ) → IsFaultText source text → IsFaultText source other → other ≡ text
-one_fault_text source one_list one_of_tokens apart text other is other_is =
-    let same = first_is_one source other_is.line is.line other_is.spelling is.spelling other_is.detail is.detail one_list one_of_tokens apart other_is.first is.first in
+pub one_fault_text : (source text other : List ℕ) → IsFaultText source text → IsFaultText source other → other ≡ text
+one_fault_text source text other is other_is =
+    let same = first_is_one source other_is.line is.line other_is.spelling is.spelling other_is.detail is.detail other_is.first is.first in
     other_is.lines ∙ (λ i. fault_lines source (same.0 i) (same.1 i) (same.2 i)) ∙ sym is.lines
+
+-- ---- no first fault
+
+-- a source whose grammar has no fault either has none
+pub no_fault_yet : (source : List ℕ) (portions : List PlainPortion) (sig : Signature) → FaultyFilesHaveNoSignature → HasPortions source portions → (HasNotBuilt source → ⊥) →
+    IsSignatureOf portions sig → HasNoFaultYet source
+no_fault_yet source portions sig law has built is line spelling detail (of_tokens fault has_fault told) = none_of_tokens source fault _ has.are_tokens has_fault
+no_fault_yet source portions sig law has built is line spelling detail (of_outline fault first) = portions_exclude source portions line spelling detail has fault
+no_fault_yet source portions sig law has built is line spelling detail (of_not_built token first before told) = built (record { token = token; is = first.is })
+no_fault_yet source portions sig law has built is line spelling detail (of_grammar others code others_has none first named) =
+    let same : others ≡ portions = portions_unique source others portions others_has has in
+    law others sig code first.token detail (subst (λ (ps : List PlainPortion). IsSignatureOf ps sig) (sym same) is) first.stands
+
+pub told_signature : (source : List ℕ) (portions : List PlainPortion) (sig : Signature) → FaultyFilesHaveNoSignature → HasPortions source portions → (HasNotBuilt source → ⊥) →
+    IsSignatureOf portions sig → IsSignatureOf portions sig × HasNoFaultYet source
+told_signature source portions sig law has built is = (is, no_fault_yet source portions sig law has built is)
+
+-- a source with an outline is refused for its first token that is not built
+pub told_not_built : (source : List ℕ) (portions : List PlainPortion) (token : PlainToken) (line : ℕ) (spelling detail : List ℕ) → HasPortions source portions → IsFirstNotBuilt source token →
+    IsToldOn token.line variant.NotBuilt token.text line spelling detail → IsFirstFault source line spelling detail
+told_not_built source portions token line spelling detail has first told =
+    of_not_built token first (λ other others words fault. absurd (portions_exclude source portions other others words has fault)) told
+
+-- a source whose grammar is refused is refused for the same
+pub refused_with : (source : List ℕ) (portions : List PlainPortion) (answer : Result Signature Refusal) → HasPortions source portions → (HasNotBuilt source → ⊥) →
+    ((fault : Fault) → IsErrOf answer (Refused fault) → IsFirstOfGrammar portions fault.line fault.code fault.detail) → IfErr answer (IsRefusedWith source)
+refused_with source portions (Ok sig) has built is = tt
+refused_with source portions (Err (Refused fault)) has built is = of_grammar portions fault.code has built (is fault refl) refl
+refused_with source portions (Err OutOfMemory) has built is = tt
+
+-- a right file has no first fault
+right_has_none : (source : List ℕ) → FaultyFilesHaveNoSignature → (HasNotBuilt source → ⊥) → IsSomeRight source ⊎ IsGrammarFile source → HasNoFaultYet source
+right_has_none source law built (inl some) = no_fault_yet source some.right.portions some.th.sig law some.right.has built some.right.file.signature
+right_has_none source law built (inr alone) = no_fault_yet source alone.portions alone.sig law alone.has built alone.signature
+
+pub faulty_is_wrong : (source : List ℕ) (line : ℕ) (spelling detail : List ℕ) → FaultyFilesHaveNoSignature → IsFirstFault source line spelling detail → IsRightFile source → ⊥
+faulty_is_wrong source line spelling detail law first right = right_has_none source law right.built right.right line spelling detail first

@@ -10,3 +10,15 @@ mod ProvableLemmas
 mod RightFiles
 mod LeadsLemmas
 mod FaultLemmas
+mod PlaceLemmas
+mod FirstLemmas
+mod TokenLemmas
+mod PortionTokens
+mod CategoryTokens
+mod GrammarLemmas
+mod NotBuiltLemmas
+mod SearchLemmas
+mod BareLemmas
+mod GrammarFiles
+mod VariableLemmas
+mod JudgeLemmas

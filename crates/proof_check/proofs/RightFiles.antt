@@ -1,5 +1,5 @@
 -- A file stands for one theory, one list of statements and one list of steps at most.
-use Rattle.std.proofs.Common.{◌≡◌, ◌≢◌, ℕ, List, [], ◌∷◌, map, length, Option, Some, None, refl, ap, sym, ◌∙◌, subst}
+use Rattle.std.proofs.Common.{◌≡◌, ◌≢◌, ℕ, List, map, length, Option, Some, None, refl, ap, sym, ◌∙◌, subst}
 use Rattle.std.specs.Prelude.{MatchOption}
 use Rattle.std.specs.List.{AllByRecursion}
 use Rattle.binding_terms.specs.Signature.{Signature}
@@ -8,13 +8,7 @@ use Rattle.sy_base.specs.TokenLaws.{TokensExcludeFault}
 use Rattle.proof_lexer.specs.View.{IsRefusedFor}
 use Rattle.proof_lexer.specs.declared.fault.LexFault.{LexFault}
 use Rattle.proof_lexer.specs.declared.fault.LexFault.TheVariants.{NotUtf8, OpenComment, OpenQuote, NoMemory}
-use Rattle.outline_reader.specs.declared.parts.Outline.{Outline}
-use Rattle.outline_reader.specs.declared.parts.Portion.{Portion}
-use Rattle.outline_reader.specs.Outline.{IsOutline}
-use Rattle.outline_reader.specs.Views.{portion_view}
-use Rattle.proof_lexer.specs.View.{token_view}
-use Rattle.proof_lexer.specs.declared.token.Token.{Token}
-use Rattle.outline_reader.specs.Plain.{PlainPortion, HasPortions, outlined, plain_portion}
+use Rattle.outline_reader.specs.Plain.{PlainPortion, HasPortions}
 use Rattle.rule_schemes.specs.Rules.{Theory}
 use Rattle.rule_schemes.specs.Statement.{Theorem}
 use Rattle.rule_schemes.specs.Parts.{Parts}
@@ -110,16 +104,6 @@ proved_steps portions one ones those sig theory are steps only (Some kept) found
   ),
   λ th sts ss is. (is.0 ∙ sym found.0, is.1 ∙ sym found.1, only ss (steps_in portions one ones th sts ss is).are_steps ∙ sym found.2),
 )
-
-plain_twice : (portions : List Portion) → map (λ portion. plain_portion (portion_view portion)) portions ≡ map plain_portion (map portion_view portions)
-plain_twice [] = refl
-plain_twice (portion ∷ portions) = ap (λ rest. plain_portion (portion_view portion) ∷ rest) (plain_twice portions)
-
--- an outline of the tokens of a source gives its portions
-pub portions_of : (source : List ℕ) (tokens : List Token) → AreTokens source (map token_view tokens) → (outline : Outline) → IsOutline tokens (map portion_view outline.parts.items)
-    → HasPortions source (outlined outline)
-portions_of source tokens are outline is =
-    record { tokens = tokens; are_tokens = are; pieces = map portion_view outline.parts.items; outline = is; plain = plain_twice outline.parts.items }
 
 -- a source that was refused has no tokens
 pub no_tokens : (source : List ℕ) (fault : LexFault) → fault ≢ NoMemory → IsRefusedFor source fault → TokensExcludeFault → (tokens : List PlainToken) → AreTokens source tokens → ⊥

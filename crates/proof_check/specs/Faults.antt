@@ -1,11 +1,14 @@
--- The first fault of the tokens or the outline of a file, and the lines that tell it. To be held against 'Faults' of
+-- The first fault of the tokens, the outline or the grammar of a file, and the lines that tell it. To be held against 'Faults' of
 -- docs/notation.md.
-use Rattle.std.specs.Prelude.{◌≡◌, ℕ, ◌+◌, ◌==◌, List, [], ◌∷◌, ◌++◌, codes, decimal, count_by, take, map, slice_get, MatchOption}
+use Rattle.std.specs.Prelude.{◌≡◌, ◌<◌, ◌≤◌, ℕ, ◌+◌, ◌==◌, List, [], ◌∷◌, ◌++◌, codes, decimal, count_by, take, map, slice_get, Option, MatchOption}
 use Rattle.sy_base.specs.CodeName.{code_name}
 use Rattle.sy_base.specs.SourceLine.{source_line}
 use Rattle.sy_base.specs.Tokens.{PlainToken, AreTokens, TokenFault, HasFault, not_utf8, open_comment, open_quote}
 use Rattle.sy_base.specs.declared.fault.Code.{Code}
 use Rattle.sy_base.specs.declared.fault.Code.TheVariants as variant
+use Rattle.sy_base.specs.declared.fault.Fault.{Fault}
+use Rattle.sy_base.specs.declared.fault.Refusal.{Refusal}
+use Rattle.sy_base.specs.declared.fault.Refusal.TheVariants.{Refused, NoMemory as OutOfMemory}
 use Rattle.proof_lexer.specs.View.{token_view}
 use Rattle.proof_lexer.specs.declared.token.Token.{Token}
 use Rattle.outline_reader.specs.declared.fault.Part.{Part}
@@ -15,6 +18,9 @@ use Rattle.outline_reader.specs.declared.fault.Limit.TheVariants as limits
 use Rattle.outline_reader.specs.declared.fault.OutlineFault.{OutlineFault}
 use Rattle.outline_reader.specs.declared.fault.OutlineFault.TheVariants.{Unexpected, MissingEnd, TooMany, NoMemory}
 use Rattle.outline_reader.specs.Outline.{IsFault}
+use Rattle.outline_reader.specs.Plain.{PlainPortion, HasPortions}
+use Rattle.user_grammar.specs.Fault.{IsFirstFault as IsFirstOfGrammar}
+use Rattle.proof_check.specs.NotBuilt.{IsNotBuilt, HasNotBuilt, IsFirstNotBuilt}
 
 -- the words by which a part of a file is told
 abbrev pub part_words : Part → List ℕ
@@ -76,17 +82,44 @@ IsOutlineTold tokens (MissingEnd at part) line spelling detail = IsToldOn at var
 IsOutlineTold tokens (TooMany at limit) line spelling detail = IsToldOn at variant.TooMany (limit_word limit) line spelling detail
 IsOutlineTold tokens NoMemory line spelling detail = ⊥
 
--- The first fault of the tokens or the outline of a source, with its line, the spelling of its code and its detail: the fault of a source
--- that has no tokens, or the fault of the outline of its tokens.
-pub data IsFirstFault (source : List ℕ) (line : ℕ) (spelling detail : List ℕ) : Type 0 where
-  of_tokens : (fault : TokenFault) → HasFault source fault → IsToldAt source (fault_place fault) (fault_code fault) line spelling detail
-      → IsFirstFault source line spelling detail
-  of_outline : (tokens : List Token) (fault : OutlineFault) → AreTokens source (map token_view tokens) → IsFault tokens fault
-      → IsOutlineTold (map token_view tokens) fault line spelling detail → IsFirstFault source line spelling detail
+-- the fault of the outline of a source's tokens is told so
+pub record HasOutlineFault (source : List ℕ) (line : ℕ) (spelling detail : List ℕ) : Type 0 where
+  pub tokens : List Token
+  pub fault : OutlineFault
+  pub are_tokens : AreTokens source (map token_view tokens)
+  pub is_fault : IsFault tokens fault
+  pub told : IsOutlineTold (map token_view tokens) fault line spelling detail
 
--- the source has neither a fault of its tokens nor one of its outline
+-- The first fault of the tokens, the outline or the grammar of a source, with its line, the spelling of its code and its detail: the fault
+-- of a source that has no tokens; of the fault of the outline and the tokens that are not built the first by line, where on one line the
+-- fault of the outline is told; or the first fault of the grammar of a source that has neither.
+pub data IsFirstFault (source : List ℕ) (line : ℕ) (spelling detail : List ℕ) : Type 0 where
+  of_tokens : (fault : TokenFault) → HasFault source fault → IsToldAt source (fault_place fault) (fault_code fault) line spelling detail →
+      IsFirstFault source line spelling detail
+  of_outline : HasOutlineFault source line spelling detail → ((token : PlainToken) → IsNotBuilt source token → line ≤ token.line) →
+      IsFirstFault source line spelling detail
+  of_not_built : (token : PlainToken) → IsFirstNotBuilt source token →
+      ((other : ℕ) (others words : List ℕ) → HasOutlineFault source other others words → token.line < other) →
+      IsToldOn token.line variant.NotBuilt token.text line spelling detail → IsFirstFault source line spelling detail
+  of_grammar : (portions : List PlainPortion) (code : Code) → HasPortions source portions → (HasNotBuilt source → ⊥) →
+      IsFirstOfGrammar portions line code detail → spelling ≡ code_name code → IsFirstFault source line spelling detail
+
+-- the fault is the first one of the source
+abbrev pub TellsFirst : List ℕ → Fault → Type 0
+TellsFirst source fault = IsFirstFault source fault.line (code_name fault.code) fault.detail
+
+-- the source is refused for its first fault; want of memory says nothing of it
+abbrev pub IsRefusedWith : List ℕ → Refusal → Type 0
+IsRefusedWith source (Refused fault) = TellsFirst source fault
+IsRefusedWith source OutOfMemory = Unit {0}
+
+-- the source has no fault of its tokens, its outline or its grammar
 abbrev pub HasNoFaultYet : List ℕ → Type 0
 HasNoFaultYet source = (line : ℕ) (spelling detail : List ℕ) → IsFirstFault source line spelling detail → ⊥
+
+-- the first fault of the source is found, and none where there is none
+abbrev pub FindsFault : List ℕ → Option Fault → Type 0
+FindsFault source found = MatchOption found (HasNoFaultYet source) (TellsFirst source)
 
 -- a detail stands after a colon and a blank; a text with an empty detail ends after the code
 abbrev pub after_code : List ℕ → List ℕ
@@ -105,7 +138,7 @@ fault_line line spelling detail = codes "line " ++ decimal line ++ codes ": " ++
 abbrev pub fault_lines : List ℕ → ℕ → List ℕ → List ℕ → List ℕ
 fault_lines source line spelling detail = ended_line (fault_line line spelling detail) ++ ended_line (source_line source line)
 
--- the text tells the first fault of the tokens or the outline of the source
+-- the text tells the first fault of the tokens, the outline or the grammar of the source
 pub record IsFaultText (source text : List ℕ) : Type 0 where
   pub line : ℕ
   pub spelling : List ℕ

@@ -1,7 +1,8 @@
 -- Right files. To be held against docs/notation.md, 'Files'.
-use Rattle.std.specs.Prelude.{◌≡◌, ℕ, List, Option, Some, None}
+use Rattle.std.specs.Prelude.{◌≡◌, ◌⊎◌, ℕ, List, Option, Some, None}
 use Rattle.std.specs.List.{AllByRecursion}
-use Rattle.outline_reader.specs.Plain.{PlainPortion, HasPortions}
+use Rattle.binding_terms.specs.Signature.{Signature}
+use Rattle.outline_reader.specs.Plain.{PlainPortion, terminals, syntax_word, category, HasPortions}
 use Rattle.user_grammar.specs.Grammar.{IsSignatureOf}
 use Rattle.judgments.specs.Theory.{IsTheoryOf}
 use Rattle.judgments.specs.Statements.{AreStatementsOf}
@@ -11,6 +12,7 @@ use Rattle.rule_schemes.specs.Statement.{Theorem}
 use Rattle.core_proofs.specs.Kept.{Kept, kept_theory, kept_statements, kept_steps}
 use Rattle.core_proofs.specs.Step.{Step}
 use Rattle.core_proofs.specs.Proof.{Proves}
+use Rattle.proof_check.specs.NotBuilt.{HasNotBuilt}
 use Rattle.proof_check.specs.Steps.{AreStepsOf}
 
 -- The portions stand for a signature, a theory over it, statements and steps, and the steps are right proofs of all the statements.
@@ -45,3 +47,30 @@ IsOnlyFile P (Some kept) =
 -- the portions stand for a right file that is built so far
 abbrev pub IsBuiltFileOf : List PlainPortion → Theory → List Theorem → List Step → Type 0
 IsBuiltFileOf portions th statements steps = IsFileOf portions th statements steps × IsBuilt th statements
+
+-- terminals, the word `syntax`, or a category
+abbrev pub IsGrammarPortion : PlainPortion → Type 0
+IsGrammarPortion (terminals first items) = Unit {0}
+IsGrammarPortion (syntax_word first) = Unit {0}
+IsGrammarPortion (category name productions) = Unit {0}
+IsGrammarPortion _ = ⊥
+
+-- a file of terminals and syntax parts alone, which stands for a signature
+pub record IsGrammarFile (source : List ℕ) : Type 0 where
+  pub portions : List PlainPortion
+  pub has : HasPortions source portions
+  pub grammar_alone : AllByRecursion IsGrammarPortion portions
+  pub sig : Signature
+  pub signature : IsSignatureOf portions sig
+
+-- the source is right so far, for something
+pub record IsSomeRight (source : List ℕ) : Type 0 where
+  pub th : Theory
+  pub statements : List Theorem
+  pub steps : List Step
+  pub right : IsRightSoFar source th statements steps
+
+-- A right file of the forms that are built: no place of it is not built, and it is right so far or a grammar alone.
+pub record IsRightFile (source : List ℕ) : Type 0 where
+  pub built : HasNotBuilt source → ⊥
+  pub right : IsSomeRight source ⊎ IsGrammarFile source

@@ -1,7 +1,12 @@
+pub mod Bare
 pub mod Cited
 pub mod Faults
 pub mod File
 pub mod Finding
+pub mod Judged
+pub mod Laws
+pub mod NotBuilt
+pub mod Places
 pub mod Plain
 pub mod Steps
 pub mod View

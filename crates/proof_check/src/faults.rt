@@ -1,17 +1,24 @@
-// The first fault of the tokens or the outline of a file.
-ghost use Rattle.std.specs.Prelude.{◌≡◌, ◌≢◌, ◌-◌, ◌<◌, ◌^◌, ◌==◌, IfOk, MatchOption, length, count_by, map};
+// The first fault of the tokens, the outline or the grammar of a file.
+ghost use Rattle.std.specs.Prelude.{◌≡◌, ◌≢◌, ◌⊎◌, ◌-◌, ◌<◌, ◌^◌, ◌==◌, IfOk, IfErr, length, count_by, map};
 ghost use Rattle.sy_base.specs.CodeName.{code_name};
 ghost use Rattle.sy_base.specs.Tokens.{AreTokens};
 ghost use Rattle.proof_lexer.specs.View.{token_view, IsRefusedFor};
-ghost use Rattle.outline_reader.specs.Outline.{IsFault, IsUnexpected};
-ghost use Rattle.proof_check.specs.Faults.{part_words, limit_word, line_of_place, IsToldAt, IsToldOn, IsOutlineTold, IsFirstFault, HasNoFaultYet};
+ghost use Rattle.outline_reader.specs.Outline.{IsOutline, IsFault, IsUnexpected};
+ghost use Rattle.outline_reader.specs.Plain.{outlined};
+ghost use Rattle.outline_reader.specs.Views.{portion_view};
+ghost use Rattle.user_grammar.specs.Grammar.{IsSignatureOf};
+ghost use Rattle.proof_check.specs.NotBuilt.{HasNotBuilt};
+ghost use Rattle.proof_check.specs.Faults.{part_words, limit_word, line_of_place, IsToldAt, IsToldOn, IsOutlineTold, HasNoFaultYet, TellsFirst, FindsFault, IsRefusedWith};
 
-use binding_terms::{NoMemory, Text};
+use crate::places::first_not_built;
+use crate::unbuilt::first_unbuilt;
+use binding_terms::{NoMemory, Sig, Text};
 use itoa::Buffer;
-use outline_reader::{Limit, OutlineFault, Part, outline};
-use proof_lexer::{LexFault, Token, lex, tokens_are_unique};
+use outline_reader::{Limit, Outline, OutlineFault, Part, outline};
+use proof_lexer::{LexFault, Token, lex};
 use std::alloc::Global;
-use sy_base::{Code, Fault};
+use sy_base::{Code, Fault, Refusal};
+use user_grammar::{faulty_files_have_no_signature, grammar};
 
 /// The words by which a part of a file is told.
 fn part_words(part: Part) -> &'static str
@@ -94,10 +101,10 @@ fn fault_at(alloc: Global, source: &[u8], place: usize, code: Code) -> Result<Fa
 }
 
 /// The fault of a source that has no tokens.
-fn token_fault(alloc: Global, source: &[u8], fault: LexFault) -> Result<Fault, NoMemory>
+pub(crate) fn token_fault(alloc: Global, source: &[u8], fault: LexFault) -> Result<Fault, NoMemory>
     requires size { length source.now < 2 ^ 32 - 1 }
     requires refused { IsRefusedFor source.now fault }
-    ensures { IfOk result (λ told. IsFirstFault source.now told.line (code_name told.code) told.detail) }
+    ensures { IfOk result (TellsFirst source.now) }
 {
     match fault {
         LexFault::NotUtf8(place) => fault_at(alloc, source, place, Code::NotUtf8),
@@ -139,40 +146,120 @@ fn outline_fault(
     }
 }
 
-/// The fault of tokens that have no outline, or none where they have one.
-fn fault_of(alloc: Global, tokens: &Vec<Token<'_>>) -> Option<OutlineFault>
-    ensures { MatchOption result ((fault : OutlineFault) → IsFault tokens.now.items fault → ⊥)
-        (λ fault. fault ≢ OutlineFault.NoMemory → IsFault tokens.now.items fault) }
+/// The fault of a token at which a form stands that is not built.
+fn not_built(alloc: Global, token: &Token<'_>) -> Result<Fault, NoMemory>
+    ensures { IfOk result (λ told. IsToldOn token.now.line Code.NotBuilt token.now.text.now
+        told.line (code_name told.code) told.detail) }
 {
-    match outline(alloc, tokens) {
-        Ok(_) => None,
-        Err(fault) => Some(fault),
+    fault_on(alloc, token.line, Code::NotBuilt, token.text.as_bytes())
+}
+
+/// The fault of a token that is not built where that stands on an earlier line than this fault, and this fault else.
+fn earlier_fault(alloc: Global, token: &Token<'_>, told: Fault) -> Result<Fault, NoMemory>
+    ensures { IfOk result (λ first.
+        ((token.now.line < told.line) × IsToldOn token.now.line Code.NotBuilt token.now.text.now first.line (code_name first.code) first.detail)
+        ⊎ ((token.now.line < told.line → ⊥) × (first ≡ told))) }
+{
+    if token.line < told.line {
+        return not_built(alloc, token);
+    }
+    Ok(told)
+}
+
+/// The first fault of a source whose tokens have no outline.
+pub(crate) fn unoutlined_fault(
+    alloc: Global,
+    source: &[u8],
+    tokens: &[Token<'_>],
+    fault: OutlineFault,
+) -> Result<Fault, NoMemory>
+    requires are_tokens { AreTokens source.now (map token_view tokens.now) }
+    requires fault { fault ≢ OutlineFault.NoMemory → IsFault tokens.now fault }
+    ensures { IfOk result (TellsFirst source.now) }
+{
+    let _ = source;
+    let told = outline_fault(alloc, tokens, fault)?;
+    match first_unbuilt(tokens) {
+        Some(token) => earlier_fault(alloc, &token, told),
+        None => Ok(told),
     }
 }
 
-/// The fault of the outline of a source's tokens, or none where they have an outline.
+/// The signature of a source with an outline and no token that is not built, or the first fault of its grammar.
+fn grammar_or_fault(
+    alloc: Global,
+    source: &[u8],
+    tokens: &[Token<'_>],
+    outline: &Outline<'_>,
+) -> Result<Sig, Refusal>
+    requires are_tokens { AreTokens source.now (map token_view tokens.now) }
+    requires outline { IsOutline tokens.now (map portion_view outline.now.parts.items) }
+    requires built { HasNotBuilt source.now → ⊥ }
+    ensures sig { IfOk result (λ sig. IsSignatureOf (outlined outline.now) sig × HasNoFaultYet source.now) }
+    ensures refused { IfErr result (IsRefusedWith source.now) }
+{
+    let _ = source;
+    let _ = tokens;
+    faulty_files_have_no_signature();
+    grammar(alloc, outline)
+}
+
+/// The signature of a source with an outline, or the first fault of the source.
+pub(crate) fn signature_or_fault(
+    alloc: Global,
+    source: &[u8],
+    tokens: &[Token<'_>],
+    outline: &Outline<'_>,
+) -> Result<Sig, Refusal>
+    requires are_tokens { AreTokens source.now (map token_view tokens.now) }
+    requires outline { IsOutline tokens.now (map portion_view outline.now.parts.items) }
+    ensures sig { IfOk result (λ sig. IsSignatureOf (outlined outline.now) sig × HasNoFaultYet source.now) }
+    ensures built { IfOk result (λ sig. HasNotBuilt source.now → ⊥) }
+    ensures refused { IfErr result (IsRefusedWith source.now) }
+{
+    match first_not_built(source, tokens, outline) {
+        Some(token) => Err(Refusal::Refused(not_built(alloc, &token)?)),
+        None => grammar_or_fault(alloc, source, tokens, outline),
+    }
+}
+
+/// The first fault of tokens that have an outline, or none where there is none.
+fn outlined_fault(
+    alloc: Global,
+    source: &[u8],
+    tokens: &[Token<'_>],
+    outline: &Outline<'_>,
+) -> Result<Option<Fault>, NoMemory>
+    requires are_tokens { AreTokens source.now (map token_view tokens.now) }
+    requires outline { IsOutline tokens.now (map portion_view outline.now.parts.items) }
+    ensures { IfOk result (FindsFault source.now) }
+{
+    match signature_or_fault(alloc, source, tokens, outline) {
+        Ok(_) => Ok(None),
+        Err(Refusal::Refused(fault)) => Ok(Some(fault)),
+        Err(Refusal::NoMemory) => Err(NoMemory),
+    }
+}
+
+/// The first fault of a source with these tokens, or none where there is none.
 fn tokens_fault(
     alloc: Global,
     source: &[u8],
     tokens: &Vec<Token<'_>>,
 ) -> Result<Option<Fault>, NoMemory>
     requires { AreTokens source.now (map token_view tokens.now.items) }
-    ensures { IfOk result (λ found. MatchOption found (HasNoFaultYet source.now)
-        (λ told. IsFirstFault source.now told.line (code_name told.code) told.detail)) }
+    ensures { IfOk result (FindsFault source.now) }
 {
-    let _ = source;
-    tokens_are_unique();
-    match fault_of(alloc, tokens) {
-        Some(fault) => Ok(Some(outline_fault(alloc, tokens, fault)?)),
-        None => Ok(None),
+    match outline(alloc, tokens) {
+        Ok(outline) => outlined_fault(alloc, source, tokens, &outline),
+        Err(fault) => Ok(Some(unoutlined_fault(alloc, source, tokens, fault)?)),
     }
 }
 
-/// The first fault of the tokens or the outline of a source, or none where it has neither.
+/// The first fault of the tokens, the outline or the grammar of a source, or none where there is none.
 pub(crate) fn first_fault(alloc: Global, source: &[u8]) -> Result<Option<Fault>, NoMemory>
     requires { length source.now < 2 ^ 32 - 1 }
-    ensures { IfOk result (λ found. MatchOption found (HasNoFaultYet source.now)
-        (λ told. IsFirstFault source.now told.line (code_name told.code) told.detail)) }
+    ensures { IfOk result (FindsFault source.now) }
 {
     match lex(alloc, source) {
         Ok(tokens) => tokens_fault(alloc, source, &tokens),

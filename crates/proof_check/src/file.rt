@@ -20,6 +20,7 @@ ghost use Rattle.core_proofs.specs.Provable.{IsProvable};
 ghost use Rattle.proof_check.specs.File.{IsFileOf, IsBuiltFileOf, IsRightSoFar, IsOnlyFile};
 ghost use Rattle.proof_check.specs.Steps.{AreStepsOf};
 
+use crate::bare::is_bare;
 use crate::proofs::steps_of;
 use binding_terms::{NoMemory, Sig};
 use core_proofs::{Accepted, CoreStep, Proving};
@@ -129,6 +130,22 @@ fn theory_of(alloc: Global, outline: &Outline<'_>, sig: Sig) -> Result<Option<Ac
         Some(system) => theorems_of(alloc, outline, system),
         None => Ok(None),
     }
+}
+
+/// What the portions of a file with this signature stand for, or none where they are no right file.
+pub(crate) fn over_signature(
+    alloc: Global,
+    outline: &Outline<'_>,
+    sig: Sig,
+) -> Result<Option<Accepted>, NoMemory>
+    requires { IsSignatureOf (outlined outline.now) sig }
+    ensures { IfOk result (IsOnlyFile (IsBuiltFileOf (outlined outline.now))) }
+{
+    signatures_are_unique();
+    if !is_bare(&sig) {
+        return Ok(None);
+    }
+    theory_of(alloc, outline, sig)
 }
 
 /// What the portions of a file stand for, or none where they are no right file.

@@ -24,7 +24,7 @@ pub fn number(at: usize) -> Result<u32, NoMemory>
     }
 }
 
-fn is_same(one: &[u8], other: &[u8]) -> bool
+pub fn is_same(one: &[u8], other: &[u8]) -> bool
     ensures { IsTrue result ↔ (one.now ≡ other.now) }
 {
     one == other

@@ -25,7 +25,7 @@ fn are_endings(bytes: &[u8]) -> bool
 }
 
 /// Whether the word is the name, followed by digits and primes.
-fn is_spelling(name: &[u8], word: &[u8]) -> bool
+pub fn is_spelling(name: &[u8], word: &[u8]) -> bool
     ensures { IsTrue result ↔ IsSpelling name.now word.now }
 {
     match word.strip_prefix(name) {

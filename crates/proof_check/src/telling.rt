@@ -6,7 +6,7 @@ ghost use Rattle.proof_check.specs.Faults.{after_code, ended_line, fault_line, f
 use crate::faults::first_fault;
 use binding_terms::NoMemory;
 use itoa::Buffer;
-use proof_lexer::{source_line, tokens_are_unique};
+use proof_lexer::source_line;
 use std::alloc::Global;
 use sy_base::Fault;
 
@@ -45,7 +45,7 @@ fn fault_line(alloc: Global, fault: &Fault) -> Result<Vec<u8>, NoMemory>
 }
 
 /// The line that tells a fault and the line of the source at which it stands, each with a line feed.
-fn fault_lines(alloc: Global, source: &[u8], fault: &Fault) -> Result<Vec<u8>, NoMemory>
+pub(crate) fn fault_lines(alloc: Global, source: &[u8], fault: &Fault) -> Result<Vec<u8>, NoMemory>
     ensures { IfOk result (λ text. text.items ≡ fault_lines source.now fault.now.line (code_name fault.now.code) fault.now.detail) }
 {
     let mut text = Vec::new(alloc);
@@ -55,7 +55,7 @@ fn fault_lines(alloc: Global, source: &[u8], fault: &Fault) -> Result<Vec<u8>, N
     Ok(text)
 }
 
-/// The two lines that tell the first fault of the tokens or the outline of a file, or none where it has neither: 'Tokens' and 'Outline' of
+/// The two lines that tell the first fault of the tokens, the outline or the grammar of a file, or none where it has none: 'Faults' of
 /// docs/notation.md.
 ///
 /// They are `line n: Code: detail` and line n of the file without its own ending, each with a line feed.
@@ -65,7 +65,6 @@ pub fn fault_text(alloc: Global, source: &[u8]) -> Result<Option<Vec<u8>>, NoMem
         (λ text. IsFaultText source.now text.items
         × ((other : List ℕ) → IsFaultText source.now other → other ≡ text.items))) }
 {
-    tokens_are_unique();
     match first_fault(alloc, source)? {
         Some(fault) => Ok(Some(fault_lines(alloc, source, &fault)?)),
         None => Ok(None),

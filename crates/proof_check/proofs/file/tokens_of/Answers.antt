@@ -1,6 +1,7 @@
 use Rattle.std.proofs.lemmas.Result.{IfOk-weaker}
 use Rattle.outline_reader.specs.Plain.{HasPortions, outlined}
-use Rattle.proof_check.proofs.RightFiles.{only_as, right_there, right_back, portions_of}
+use Rattle.proof_check.proofs.FaultLemmas.{portions_of}
+use Rattle.proof_check.proofs.RightFiles.{only_as, right_there, right_back}
 use Rattle.proof_check.proofs.file.tokens_of.Goals as goal
 
 pub returns-in-Ok : goal.returns-in-Ok

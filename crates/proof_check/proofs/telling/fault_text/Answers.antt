@@ -1,5 +1,5 @@
 use Rattle.sy_base.specs.CodeName.{code_name}
-use Rattle.proof_check.specs.Faults.{IsFirstFault, HasNoFaultYet, IsFaultText}
+use Rattle.proof_check.specs.Faults.{TellsFirst, HasNoFaultYet, IsFaultText}
 use Rattle.proof_check.proofs.FaultLemmas.{one_fault_text}
 use Rattle.proof_check.proofs.telling.fault_text.Goals as goal
 
@@ -7,13 +7,10 @@ pub returns-in_ok-fault_lines-in-Some : goal.returns-in_ok-fault_lines-in-Some
 returns-in_ok-fault_lines-in-Some c =
     let source = c.args.source.now in
     let fault = c.in-Some.fault in
-    let first : IsFirstFault source fault.line (code_name fault.code) fault.detail = rw c.in-Some.is at c.in_ok-fault.ensures in
+    let first : TellsFirst source fault = rw c.in-Some.is at c.in_ok-fault.ensures in
     let told : IsFaultText source c.in_ok-fault_lines-in-Some.field-0.items =
-    record { line = fault.line; spelling = code_name fault.code; detail = fault.detail; first = first; lines = c.in_ok-fault_lines-in-Some.ensures } in (
-      told,
-      (λ other is. one_fault_text source c.tokens_are_unique.ensures.tokens c.tokens_are_unique.ensures.fault c.tokens_are_unique.ensures.apart
-          c.in_ok-fault_lines-in-Some.field-0.items other told is),
-    )
+    record { line = fault.line; spelling = code_name fault.code; detail = fault.detail; first = first; lines = c.in_ok-fault_lines-in-Some.ensures } in
+    (told, (λ other is. one_fault_text source c.in_ok-fault_lines-in-Some.field-0.items other told is))
 
 pub returns-in-None : goal.returns-in-None
 returns-in-None c =

@@ -1,0 +1,118 @@
+-- Places of tokens, and what is kept of the tokens before a place.
+use native.Mathlib.Omega.{arith}
+use Rattle.std.proofs.Common.{◌≡◌, ◌↔◌, ◌⊎◌, ◌<◌, ◌≤◌, ℕ, suc, List, [], ◌∷◌, ◌++◌, length, inl, inr, refl, sym, ap, subst, ◌∙◌}
+use Rattle.std.specs.Prelude.{codes}
+use Rattle.std.proofs.lemmas.Bool.{cases_lt}
+use Rattle.sy_base.specs.Tokens.{PlainToken}
+use Rattle.user_grammar.specs.Production.{IsMark}
+use Rattle.proof_check.specs.NotBuilt.{IsWord, IsUnbuiltWord, IsReservedWord, IsName, IsCallee, BeginsWithColon, EndsInSyntax, the_word, another, EndsWith, IsUnbuiltAt, a_word, a_bracket, behind_by, syntax_input}
+use Rattle.proof_check.specs.Places.{NoneAmongFirst}
+
+-- lists with one last element each
+pub same_last : {A : Type 0} (xs ys : List A) (x y : A) → xs ++ x ∷ [] ≡ ys ++ y ∷ [] → (xs ≡ ys) × (x ≡ y)
+same_last [] [] x y e = (refl, cc)
+same_last [] (b ∷ []) x y e = absurd (let no : [] ≡ y ∷ [] = cc in cc)
+same_last [] (b ∷ c ∷ ys) x y e = absurd (let no : [] ≡ c ∷ (ys ++ y ∷ []) = cc in cc)
+same_last (a ∷ []) [] x y e = absurd (let no : x ∷ [] ≡ [] = cc in cc)
+same_last (a ∷ c ∷ xs) [] x y e = absurd (let no : c ∷ (xs ++ x ∷ []) ≡ [] = cc in cc)
+same_last (a ∷ xs) (b ∷ ys) x y e =
+    let first : a ≡ b = cc in
+    let rest : xs ++ x ∷ [] ≡ ys ++ y ∷ [] = cc in
+    let same = same_last xs ys x y rest in
+    (λ i. first i ∷ same.0 i, same.1)
+
+no_last : {A : Type 0} (xs : List A) (x : A) → [] ≡ xs ++ x ∷ [] → ⊥
+no_last [] x e = cc
+no_last (y ∷ xs) x e = cc
+
+-- two splits at one place
+pub same_split : {A : Type 0} (xs ys : List A) (x y : A) (us vs : List A) → xs ++ x ∷ us ≡ ys ++ y ∷ vs → length xs ≡ length ys → (xs ≡ ys) × (x ≡ y) × (us ≡ vs)
+same_split [] [] x y us vs e n = (refl, cc, cc)
+same_split [] (b ∷ ys) x y us vs e n = absurd cc
+same_split (a ∷ xs) [] x y us vs e n = absurd cc
+same_split (a ∷ xs) (b ∷ ys) x y us vs e n =
+    let first : a ≡ b = cc in
+    let rest : xs ++ x ∷ us ≡ ys ++ y ∷ vs = cc in
+    let same = same_split xs ys x y us vs rest (let m : length xs ≡ length ys = cc in m) in
+    (λ i. first i ∷ same.0 i, same.1, same.2)
+
+-- ---- what is kept of the tokens before a place
+
+syntax_reserved : (token : PlainToken) → IsWord (codes "syntax") token → IsReservedWord token
+syntax_reserved token is = record { word = is.0; among = inr (inl (sym is.1)) }
+
+pub none_in_syntax : EndsInSyntax [] → ⊥
+none_in_syntax (the_word before word split is) = no_last before word split
+none_in_syntax (another before token split not_reserved ends) = no_last before token split
+
+pub none_before : (word : List ℕ) → EndsWith word [] → ⊥
+none_before word ends = no_last ends.before ends.last ends.split
+
+pub behind_word : (word : List ℕ) (tokens : List PlainToken) (token : PlainToken) → IsWord word token ↔ EndsWith word (tokens ++ token ∷ [])
+behind_word word tokens token = (
+  (λ is. record { before = tokens; last = token; split = refl; is_word = is }),
+  (λ ends. subst (IsWord word) (sym (same_last tokens ends.before token ends.last ends.split).1) ends.is_word),
+)
+
+behind_reserved : (tokens : List PlainToken) (token : PlainToken) → IsReservedWord token → EndsInSyntax (tokens ++ token ∷ []) → IsWord (codes "syntax") token
+behind_reserved tokens token reserved (the_word before word split is) = subst (IsWord (codes "syntax")) (sym (same_last tokens before token word split).1) is
+behind_reserved tokens token reserved (another before last split not_reserved ends) =
+    absurd (not_reserved (subst IsReservedWord (same_last tokens before token last split).1 reserved))
+
+pub behind_a_reserved_word : (tokens : List PlainToken) (token : PlainToken) → IsReservedWord token → IsWord (codes "syntax") token ↔ EndsInSyntax (tokens ++ token ∷ [])
+behind_a_reserved_word tokens token reserved = (the_word tokens token refl, behind_reserved tokens token reserved)
+
+behind_other : (tokens : List PlainToken) (token : PlainToken) → (IsReservedWord token → ⊥) → EndsInSyntax (tokens ++ token ∷ []) → EndsInSyntax tokens
+behind_other tokens token not_reserved (the_word before word split is) =
+    absurd (not_reserved (syntax_reserved token (subst (IsWord (codes "syntax")) (sym (same_last tokens before token word split).1) is)))
+behind_other tokens token not_reserved (another before last split other ends) = subst EndsInSyntax (sym (same_last tokens before token last split).0) ends
+
+pub behind_another : (tokens : List PlainToken) (token : PlainToken) → (IsReservedWord token → ⊥) → EndsInSyntax tokens ↔ EndsInSyntax (tokens ++ token ∷ [])
+behind_another tokens token not_reserved = (another tokens token refl not_reserved, behind_other tokens token not_reserved)
+
+-- ---- the places of forms that are not built
+
+abbrev pub IsOneOfThese : (front : List PlainToken) (token : PlainToken) (rest : List PlainToken) → Type 0
+IsOneOfThese front token rest =
+    IsUnbuiltWord token ⊎ (IsMark 91 token × (EndsInSyntax front → ⊥)) ⊎ (EndsWith (codes "by") front × IsCallee token)
+    ⊎ (EndsWith (codes "forall") front × IsName token × (BeginsWithColon rest → ⊥))
+
+pub to_these : (front : List PlainToken) (token : PlainToken) (rest : List PlainToken) → IsUnbuiltAt front token rest → IsOneOfThese front token rest
+to_these front token rest (a_word is) = inl is
+to_these front token rest (a_bracket is out) = inr (inl (is, out))
+to_these front token rest (behind_by by is) = inr (inr (inl (by, is)))
+to_these front token rest (syntax_input behind is no_colon) = inr (inr (inr (behind, is, no_colon)))
+
+pub from_these : (front : List PlainToken) (token : PlainToken) (rest : List PlainToken) → IsOneOfThese front token rest → IsUnbuiltAt front token rest
+from_these front token rest (inl is) = a_word is
+from_these front token rest (inr (inl is)) = a_bracket is.0 is.1
+from_these front token rest (inr (inr (inl is))) = behind_by is.0 is.1
+from_these front token rest (inr (inr (inr is))) = syntax_input is.0 is.1 is.2
+
+pub none_among_none : (tokens : List PlainToken) → NoneAmongFirst tokens 0
+none_among_none tokens front rest token split lt unbuilt = absurd (not_below (length front) lt)
+  where
+    not_below : (n : ℕ) → n < 0 → ⊥
+    not_below n lt = (omega arith)
+
+pub none_among_more : (tokens front rest : List PlainToken) (token : PlainToken) → tokens ≡ front ++ token ∷ rest → NoneAmongFirst tokens (length front) →
+    (IsUnbuiltAt front token rest → ⊥) → NoneAmongFirst tokens (length (front ++ token ∷ []))
+none_among_more tokens front rest token split none not_here others behind other other_split lt unbuilt =
+    which (below_or_same (length others) (length front) (subst (λ (n : ℕ). length others < n) (length_last front token) lt))
+  where
+    length_last : (xs : List PlainToken) (x : PlainToken) → length (xs ++ x ∷ []) ≡ suc (length xs)
+    length_last [] x = refl
+    length_last (y ∷ xs) x = ap suc (length_last xs x)
+
+    below_or_same : (m n : ℕ) → m < suc n → (m < n) ⊎ (m ≡ n)
+    below_or_same m n lt = by_case (cases_lt m n)
+      where
+        by_case : (m < n) ⊎ (n ≤ m) → (m < n) ⊎ (m ≡ n)
+        by_case (inl below) = inl below
+        by_case (inr above) = inr (omega arith)
+
+    which : (length others < length front) ⊎ (length others ≡ length front) → ⊥
+    which (inl below) = none others behind other other_split below unbuilt
+    which (inr same) =
+        let equal = same_split front others token other rest behind (sym split ∙ other_split) (sym same) in
+        not_here (subst (λ (p : List PlainToken × PlainToken × List PlainToken). IsUnbuiltAt p.0 p.1 p.2) (λ i. (sym equal.0 i, sym equal.1 i, sym equal.2 i)) unbuilt)

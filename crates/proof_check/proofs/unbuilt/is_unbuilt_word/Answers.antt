@@ -1,0 +1,11 @@
+use Rattle.std.proofs.Common.{◌↔◌, IsTrue, List, ℕ, subst}
+use Rattle.proof_lexer.specs.View.{token_view}
+use Rattle.user_grammar.specs.Names.{IsAmong}
+use Rattle.proof_check.specs.NotBuilt.{unbuilt_words}
+use Rattle.proof_check.proofs.SearchLemmas.{unbuilt_by_text}
+use Rattle.proof_check.proofs.unbuilt.is_unbuilt_word.Goals as goal
+
+pub returns-then-is_plain_word : goal.returns-then-is_plain_word
+returns-then-is_plain_word c =
+    unbuilt_by_text (token_view c.args.token.now) _ (c.is_plain_word.ensures.0 c.if-is_plain_word.true)
+    (subst (λ (text : List ℕ). IsTrue c.is_among.result ↔ IsAmong unbuilt_words text) c.as_bytes.ensures.value c.is_among.ensures)
