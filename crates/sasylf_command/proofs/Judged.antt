@@ -4,7 +4,8 @@ use Rattle.std.proofs.lemmas.Bool.{cases_order}
 use Rattle.std.specs.Prelude.{◌↔◌, Bool, IsTrue, IfNone, IfSome, MatchOption, slice_get, slice_index_or, option_map}
 use Rattle.std.specs.List.{AllByRecursion}
 use Rattle.core_proofs.specs.Kept.{Kept, kept_theory, kept_statements, kept_steps}
-use Rattle.proof_check.specs.File.{IsRightSoFar, IsOnlyFile}
+use Rattle.proof_check.specs.File.{IsRightSoFar, IsOnlyFile, IsSomeRight}
+use Rattle.proof_check.specs.NotBuilt.{HasNotBuilt}
 use Rattle.rule_schemes.specs.Rules.{Theory}
 use Rattle.rule_schemes.specs.Derivation.{Derivation, Derives}
 use Rattle.rule_schemes.specs.Statement.{Theorem, InputTree, derived, Instantiates, DeriveConclusions}
@@ -17,12 +18,11 @@ use Rattle.derivation_text.specs.Inputs as given
 use Rattle.derivation_text.specs.Text.{derivations_text}
 use Rattle.theorem_runner.specs.Instances.{no_context_value, IsDerived}
 use Rattle.theorem_runner.specs.Runs.{IsRun}
-use Rattle.sasylf_command.specs.Judging.{MakesText, IsRightFile, IsAcceptedFor, HasRun, IsValueText, Run, IsRunOf, IsTextOn, IsTextFor}
+use Rattle.sasylf_command.specs.Judging.{MakesText, IsAcceptedFor, IsKeptFor, HasRun, IsValueText, Run, IsRunOf, IsTextOn, IsTextFor}
 
--- where nothing is found the file is not right
-pub none_wrong : (source : List ℕ) (found : Option Kept) → IsOnlyFile (IsRightSoFar source) found → IfNone found (IsRightFile source → ⊥)
-none_wrong source None never = λ right. never right.th right.theorems right.steps right.right
-none_wrong source (Some kept) only = tt
+-- where nothing is kept there is no run
+pub no_run : (source theorem lines : List ℕ) → IsOnlyFile (IsRightSoFar source) None → HasRun source theorem lines → ⊥
+no_run source theorem lines never stands = never _ _ _ stands.is_run.right
 
 -- a fact of all elements is one of the element at a place
 pub all_at : {A : Type 0} (P : A → Type 0) (xs : List A) (k : ℕ) (x : A) → AllByRecursion P xs → slice_get xs k ≡ Some x → P x
@@ -155,3 +155,9 @@ makes_text kept k st xs here ds text made text_is = record {
   derives = λ inst is. subst (λ (ones : List Derivation). DeriveConclusions (kept_theory kept) st inst ones) made.alone (made.concludes st inst here is);
   text_is = text_is ∙ ap (derivations_text (kept_theory kept) None) made.alone;
 }
+
+-- what is kept of a file that is right so far
+pub kept_of : (source : List ℕ) (accepted : Kept) → (HasNotBuilt source → ⊥) → IsAcceptedFor source accepted → IsKeptFor source (Some accepted)
+kept_of source accepted built is =
+    let some : IsSomeRight source = record { th = kept_theory accepted; statements = kept_statements accepted; steps = kept_steps accepted; right = is.0 } in
+    record { right = record { built = built; right = inl some }; only = is }

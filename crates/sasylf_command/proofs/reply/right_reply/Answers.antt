@@ -2,7 +2,7 @@ use Rattle.std.proofs.Common.{ℕ, List, subst}
 use Rattle.std.proofs.lemmas.Result.{IfOk-weaker, IfErr-weaker}
 use Rattle.sasylf_command.specs.Reply.{RunsOn, judged}
 use Rattle.sasylf_command.proofs.Replies.{refused_at}
-use Rattle.sasylf_command.proofs.reply.accepted_reply.Goals as goal
+use Rattle.sasylf_command.proofs.reply.right_reply.Goals as goal
 
 pub returns-clause-ok : goal.returns-clause-ok
 returns-clause-ok g c =
