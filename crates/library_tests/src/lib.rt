@@ -2,6 +2,10 @@
 #![tactic(auto)]
 
 #[cfg(test)]
+mod grammar_rows;
+#[cfg(test)]
+mod grammars;
+#[cfg(test)]
 mod outlines;
 #[cfg(test)]
 mod readings;
