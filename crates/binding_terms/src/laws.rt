@@ -2,6 +2,7 @@
 
 ghost use Rattle.std.specs.Prelude.{◌≡◌, IfOk};
 ghost use Rattle.binding_terms.specs.Laws.{ClosedKeepsScope, FilledFilled, FilledKeepsScope, FilledPastShift, FreeIsInScope, PutInClosed, PutIsFilled, PutKeepsScope, PutPuts, PutShifts, ShiftAbovePut, ShiftBelowPut, ShiftByNone, ShiftIsFilled, ShiftKeepsScope, ShiftKeepsSize, ShiftOfClosed, ShiftPastFilled, ShiftPastShift, ShiftShifts, UnreachedDropOut, VariablesAreReached};
+ghost use Rattle.binding_terms.specs.Tree.{put_in};
 ghost use Rattle.binding_terms.specs.View.{tree};
 
 use crate::term::{Term, put, shift};
@@ -160,7 +161,8 @@ pub fn put_both_ways(
     at: usize,
     outer: &Term,
 ) -> Result<(Term, Term), NoMemory>
-    ensures { IfOk result (λ both. tree both.0 ≡ tree both.1) }
+    ensures made { IfOk result (λ both. tree both.0 ≡ put_in at (tree outer.now) (put_in 0 (tree inner.now) (tree t.now))) }
+    ensures same { IfOk result (λ both. tree both.1 ≡ tree both.0) }
 {
     let first = put(alloc, t, 0, inner)?;
     let left = put(alloc, &first, at, outer)?;

@@ -10,3 +10,4 @@ pub mod PlainForms
 pub mod Refusing
 pub mod RuleFitting
 pub mod RuleSteps
+pub mod Telling

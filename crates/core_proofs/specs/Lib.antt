@@ -1,3 +1,4 @@
+pub mod Faults
 pub mod FormEquations
 pub mod Kept
 pub mod Laws

@@ -1,8 +1,10 @@
 // Whether a step by a rule is right where it stands.
-ghost use Rattle.std.specs.Prelude.{◌≡◌, ◌↔◌, map, IfOk, None, option_map};
+ghost use Rattle.std.specs.Prelude.{◌≡◌, ◌↔◌, map, length, decimal, IfOk, IfSome, None, option_map};
 ghost use Rattle.std.specs.List.{AllByRecursion};
 ghost use Rattle.scheme_terms.specs.View.{names};
 ghost use Rattle.rule_schemes.specs.View.{theory, judgment_scheme};
+ghost use Rattle.core_proofs.specs.Faults as faults;
+ghost use Rattle.core_proofs.specs.Faults.{IsRuleCode};
 ghost use Rattle.core_proofs.specs.FormEquations.{cited_forms};
 ghost use Rattle.core_proofs.specs.Plain.{IsPlainScope, IsPlainForm};
 ghost use Rattle.core_proofs.specs.Provable.{IsRightByRule};
@@ -12,7 +14,7 @@ use crate::rule_step::is_rule_instance;
 use crate::step::StepId;
 use binding_terms::{NoMemory, Text};
 use itoa::Buffer;
-use rule_schemes::{JScheme, RuleId, System};
+use rule_schemes::{JScheme, RuleId, RuleScheme, System};
 use scheme_terms::Scope;
 use sqlite_items::at;
 use std::alloc::Global;
@@ -49,8 +51,10 @@ pub(crate) fn rule_fault(
 ) -> Result<Option<Code>, NoMemory>
     requires scope { IsPlainScope (names scope.now) }
     requires scoped { AllByRecursion (IsPlainForm (theory system.now) (names scope.now)) (map judgment_scheme scoped.now) }
-    ensures { IfOk result (λ fault. (fault ≡ None)
+    ensures right { IfOk result (λ fault. (fault ≡ None)
         ↔ IsRightByRule (theory system.now) (names scope.now) (map judgment_scheme scoped.now) (judgment_scheme form.now) rule.0 (map (λ id. id.0) on.now)) }
+    ensures code { IfOk result (λ fault. IfSome fault
+        (IsRuleCode (theory system.now) (names scope.now) (map judgment_scheme scoped.now) (judgment_scheme form.now) rule.0 (map (λ id. id.0) on.now))) }
 {
     system.always_system();
     if !is_form(system, scope, form) {
@@ -75,24 +79,41 @@ pub(crate) fn rule_fault(
     }
 }
 
+/// How many premises the rule has, in decimal.
+fn count_text(alloc: Global, rule: &RuleScheme) -> Result<Text, NoMemory>
+    ensures { IfOk result (λ text. text ≡ decimal (length rule.now.premises)) }
+{
+    let mut text = Text::new(alloc);
+    let mut digits = Buffer::new();
+    text.push(digits.format(rule.premises.len()).as_bytes())?;
+    Ok(text)
+}
+
+/// The rule's name.
+fn name_text(alloc: Global, rule: &RuleScheme) -> Result<Text, NoMemory>
+    ensures { IfOk result (λ text. text ≡ rule.now.name) }
+{
+    let mut text = Text::new(alloc);
+    text.push(rule.name.bytes())?;
+    Ok(text)
+}
+
 /// What is told beside the code of such a fault: how many premises the rule has, or its name.
 pub(crate) fn rule_detail(
     alloc: Global,
     system: &System,
     rule: RuleId,
     code: Code,
-) -> Result<Text, NoMemory> {
-    let mut detail = Text::new(alloc);
+) -> Result<Text, NoMemory>
+    ensures { IfOk result (λ detail. detail ≡ faults.rule_detail (theory system.now) rule.0 code) }
+{
     let rules = system.rules();
-    if let Some(rule) = at(rules.as_slice(), rule.0 as usize) {
-        match code {
-            Code::WrongCount => {
-                let mut digits = Buffer::new();
-                detail.push(digits.format(rule.premises.len()).as_bytes())?;
-            }
-            Code::NotInstance => detail.push(rule.name.bytes())?,
-            _ => {}
-        }
+    match at(rules.as_slice(), rule.0 as usize) {
+        Some(rule) => match code {
+            Code::WrongCount => count_text(alloc, rule),
+            Code::NotInstance => name_text(alloc, rule),
+            _ => Ok(Text::new(alloc)),
+        },
+        None => Ok(Text::new(alloc)),
     }
-    Ok(detail)
 }

@@ -2,6 +2,7 @@
 ghost use Rattle.std.specs.Prelude.{◌≡◌, ◌↔◌, ◌++◌, ◌∷◌, ◌<◌, ◌^◌, [], map, option_map, vec_len, IfOk, IfErr, IsOk, OnOk, OnErr, IsErrOf};
 ghost use Rattle.std.specs.List.{AllByRecursion};
 ghost use Rattle.rule_schemes.specs.View.{theory, statement, judgment_scheme};
+ghost use Rattle.core_proofs.specs.Faults.{IsTold};
 ghost use Rattle.core_proofs.specs.Kept.{kept_theory, kept_statements, kept_steps, form_at};
 ghost use Rattle.core_proofs.specs.Proof.{Standing, outside, Leads, Proves};
 ghost use Rattle.core_proofs.specs.Provable.{IsProvable};
@@ -63,7 +64,9 @@ impl Model for Proving {
 }
 
 /// A refusal at a line with a code, and no more to tell.
-fn refusal(alloc: Global, line: u32, code: Code) -> Refusal {
+fn refusal(alloc: Global, line: u32, code: Code) -> Refusal
+    ensures { result ≡ Refused (record { line = line; code = code; detail = [] }) }
+{
     Refusal::Refused(Fault {
         line,
         code,
@@ -123,11 +126,14 @@ impl Proving {
         &self.statements
     }
 
-    /// Keeps a step where it is right, and refuses it only where it is not. After a refusal nothing changed.
+    /// Keeps a step where it is right, and refuses it only where it is not, with its line (0 for a beginning) and the code that applies:
+    /// `BadStep` before any other where it cannot stand here, `WrongCount` and the number of the rule's premises, `NotInstance` and the
+    /// rule's name, or `NotTheGoal`. After a refusal nothing changed.
     pub fn accept_step(&mut self, step: CoreStep) -> Result<(), Refusal>
         ensures ok { OnOk result (self.new ≡ record self.old { steps = self.old.steps ++ step ∷ [] }) }
         ensures refused { (fault : Fault) → IsErrOf result (Refused fault) → (to : Standing)
             → Leads (kept_theory self.old) (kept_statements self.old) (outside 0) (kept_steps self.old ++ plain_step step ∷ []) to → ⊥ }
+        ensures told { IfErr result (IsTold self.old (plain_step step)) }
         ensures err { OnErr result (self.new ≡ self.old) }
     {
         match step {
@@ -147,6 +153,7 @@ impl Proving {
         ensures ok { OnOk result (self.new ≡ record self.old { steps = self.old.steps ++ CoreStep.Begin theorem ∷ [] }) }
         ensures refused { (fault : Fault) → IsErrOf result (Refused fault) → (to : Standing)
             → Leads (kept_theory self.old) (kept_statements self.old) (outside 0) (kept_steps self.old ++ begin_theorem theorem.0 ∷ []) to → ⊥ }
+        ensures told { IfErr result (IsTold self.old (begin_theorem theorem.0)) }
         ensures err { OnErr result (self.new ≡ self.old) }
     {
         if self.inside {
@@ -174,6 +181,7 @@ impl Proving {
         ensures ok { OnOk result (self.new ≡ record self.old { steps = self.old.steps ++ CoreStep.End line ∷ [] }) }
         ensures refused { (fault : Fault) → IsErrOf result (Refused fault) → (to : Standing)
             → Leads (kept_theory self.old) (kept_statements self.old) (outside 0) (kept_steps self.old ++ end_theorem line ∷ []) to → ⊥ }
+        ensures told { IfErr result (IsTold self.old (end_theorem line)) }
         ensures err { OnErr result (self.new ≡ self.old) }
     {
         if !self.inside {
@@ -210,6 +218,7 @@ impl Proving {
         ensures refused { (fault : Fault) → IsErrOf result (Refused fault) → (to : Standing)
             → Leads (kept_theory self.old) (kept_statements self.old) (outside 0)
             (kept_steps self.old ++ by_rule line (judgment_scheme form) rule.0 (map (λ id. id.0) on) ∷ []) to → ⊥ }
+        ensures told { IfErr result (IsTold self.old (by_rule line (judgment_scheme form) rule.0 (map (λ id. id.0) on))) }
         ensures err { OnErr result (self.new ≡ self.old) }
     {
         if !self.inside {

@@ -4,7 +4,8 @@
 ghost use Rattle.std.specs.Prelude.{◌≡◌, IfOk};
 ghost use Rattle.std.specs.List.{AllByRecursion};
 ghost use Rattle.binding_terms.specs.View.{tree};
-ghost use Rattle.scheme_terms.specs.Substituting.{followed, Suits, IsSaturated};
+ghost use Rattle.scheme_terms.specs.Instance.{instance_of};
+ghost use Rattle.scheme_terms.specs.Substituting.{applied, composed, followed, Suits, IsSaturated};
 ghost use Rattle.scheme_terms.specs.View.{scheme, substitution, instance as view};
 ghost use Rattle.scheme_terms.specs.Laws.{InstanceOfApplied, InstanceOfAppliedScheme, InstanceKeepsScope, InstanceKeepsScopeOfMetas, StrictAgreement, StrictAgreementInScope, AppliedAnywhere, AppliedRaised, AppliedTwice, ShiftKeepsScheme, ApplyKeepsScope, AppliedTwiceInScope, ComposedIsSubstitution, FollowedFits, InstanceRaised, SubstitutionsAgree, InstancesAgree, IdentityChangesNothing, IdentityKeepsSchemes, IdentityIsSubstitution};
 
@@ -101,7 +102,11 @@ pub fn apply_both_ways(
     first: &Subst,
     after: &Subst,
 ) -> Result<(Scheme, Scheme), NoMemory>
-    ensures { Suits (substitution first.now).metas (substitution first.now).knowns (scheme s.now) →
+    ensures in_turn { IfOk result (λ both. scheme both.0 ≡ applied (substitution after.now).metas (substitution after.now).knowns 0
+        (applied (substitution first.now).metas (substitution first.now).knowns 0 (scheme s.now))) }
+    ensures at_once { let by = composed (substitution first.now) (substitution after.now) in
+        IfOk result (λ both. scheme both.1 ≡ applied by.metas by.knowns 0 (scheme s.now)) }
+    ensures same { Suits (substitution first.now).metas (substitution first.now).knowns (scheme s.now) →
         AllByRecursion (Suits (substitution after.now).metas (substitution after.now).knowns) (substitution first.now).metas →
         IfOk result (λ both. scheme both.0 ≡ scheme both.1) }
 {
@@ -123,7 +128,10 @@ pub fn instance_both_ways(
     inst: &Inst,
     followed_by: &Inst,
 ) -> Result<(Term, Term), NoMemory>
-    ensures { IsSaturated metas.now (scheme s.now) → Suits (substitution by.now).metas (substitution by.now).knowns (scheme s.now) →
+    ensures in_turn { IfOk result (λ both. tree both.0 ≡ instance_of (view inst.now) locals
+        (applied (substitution by.now).metas (substitution by.now).knowns 0 (scheme s.now))) }
+    ensures at_once { IfOk result (λ both. tree both.1 ≡ instance_of (view followed_by.now) locals (scheme s.now)) }
+    ensures same { IsSaturated metas.now (scheme s.now) → Suits (substitution by.now).metas (substitution by.now).knowns (scheme s.now) →
         view followed_by.now ≡ followed metas.now (substitution by.now) (view inst.now) →
         IfOk result (λ both. tree both.0 ≡ tree both.1) }
 {

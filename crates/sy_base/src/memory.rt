@@ -93,6 +93,7 @@ impl Files for MemFiles {
         ensures only { result ≡ ReadAnswer.Failed
             → Contains self.old.failing.items (next_call self.old.calls) ⊎ (held_in self.old.files.items name.now ≡ None) }
         ensures failing_stays { self.new.failing.items ≡ self.old.failing.items }
+        ensures count_stays { result ≢ ReadAnswer.Failed → self.new.faults ≡ self.old.faults }
     {
         self.calls = self.calls.saturating_add(1);
         if self.failing.contains(&self.calls) {
@@ -188,6 +189,7 @@ impl Sink for MemSink {
         ensures listed { MatchOption (cut_at self.old.failing.items (next_call self.old.calls)) (result ≢ SinkAnswer.Failed)
             (λ after. (result ≢ SinkAnswer.Done) × (result ≡ SinkAnswer.Failed → self.new.bytes.items ≡ self.old.bytes.items ++ take after bytes.now)) }
         ensures failing_stays { self.new.failing.items ≡ self.old.failing.items }
+        ensures count_stays { result ≢ SinkAnswer.Failed → self.new.faults ≡ self.old.faults }
     {
         self.calls = self.calls.saturating_add(1);
         match cut_of(&self.failing, self.calls) {

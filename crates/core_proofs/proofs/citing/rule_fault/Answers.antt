@@ -8,10 +8,11 @@ use Rattle.rule_schemes.specs.View.{theory, judgment_scheme, rule}
 use Rattle.core_proofs.specs.Plain.{IsPlainForm}
 use Rattle.core_proofs.proofs.CitedForms.{uncited, no_rule, is_right, is_instance, cited_all, cited_are, cited_count}
 use Rattle.core_proofs.proofs.PlainForms.{plain_form, plain_rule_at, step_form}
+use Rattle.core_proofs.proofs.Telling.{form_is_none, number_of_none, rule_is_none, counts_differ, is_no_instance}
 use Rattle.core_proofs.proofs.citing.rule_fault.Goals as goal
 
-pub returns-in_default : goal.returns-in_default
-returns-in_default c =
+pub returns-in_default-clause-right : goal.returns-in_default-clause-right
+returns-in_default-clause-right c =
     let none = sym c.in_ok-cited.ensures ∙ ap (option_map (λ js. map (λ j. judgment_scheme j.now) js.items)) c.in_default.is in
     (λ e. let no : ⊥ = cc in absurd no, λ right. absurd (uncited _ _ _ _ _ _ none right))
 
@@ -32,8 +33,8 @@ is_rule_instance-requires-clause-rule c =
     ∙ ap (option_map rule) (ap (λ rs. slice_get rs c.args.rule.0) (sym (c.as_slice.ensures.value ∙ c.rules-rules.ensures)) ∙ sym c.at.ensures ∙ ap option_copied c.in-Some-at.is) in
     plain_rule_at _ c.always_system.ensures.plain _ _ here
 
-pub returns-then-branch : goal.returns-then-branch
-returns-then-branch c =
+pub returns-then-branch-clause-right : goal.returns-then-branch-clause-right
+returns-then-branch-clause-right c =
     let some = sym c.in_ok-cited.ensures ∙ ap (option_map (λ js. map (λ j. judgment_scheme j.now) js.items)) c.in-Some.is in
     let here : slice_get (theory c.args.system.now).rules c.args.rule.0 ≡ Some (rule c.in-Some-at.rule.now) =
     slice_get-map rule c.args.system.now.rules c.args.rule.0
@@ -42,8 +43,8 @@ returns-then-branch c =
     let judged = rw c.as_slice-in-Some-at.ensures.value at c.in_ok-is_rule_instance-in-Some-at.ensures in
     (λ e. is_right _ _ _ _ _ _ _ _ some here form_is (judged.0 c.if-branch.true), λ right. refl)
 
-pub returns-in-Some-at : goal.returns-in-Some-at
-returns-in-Some-at c =
+pub returns-in-Some-at-clause-right : goal.returns-in-Some-at-clause-right
+returns-in-Some-at-clause-right c =
     let some = sym c.in_ok-cited.ensures ∙ ap (option_map (λ js. map (λ j. judgment_scheme j.now) js.items)) c.in-Some.is in
     let here : slice_get (theory c.args.system.now).rules c.args.rule.0 ≡ Some (rule c.in-Some-at.rule.now) =
     slice_get-map rule c.args.system.now.rules c.args.rule.0
@@ -51,15 +52,15 @@ returns-in-Some-at c =
     let judged = rw c.as_slice-in-Some-at.ensures.value at c.in_ok-is_rule_instance-in-Some-at.ensures in
     (λ e. let no : ⊥ = cc in absurd no, λ right. absurd (true≢false (sym (judged.1 (is_instance _ _ _ _ _ _ _ _ some here right)) ∙ c.if-branch.false)))
 
-pub returns : goal.returns
-returns c =
+pub returns-clause-right : goal.returns-clause-right
+returns-clause-right c =
     let none : slice_get (theory c.args.system.now).rules c.args.rule.0 ≡ None =
     slice_get-map rule c.args.system.now.rules c.args.rule.0
     ∙ ap (option_map rule) (ap (λ rs. slice_get rs c.args.rule.0) (sym (c.as_slice.ensures.value ∙ c.rules-rules.ensures)) ∙ sym c.at.ensures ∙ ap option_copied c.in-None.is) in
     (λ e. let no : ⊥ = cc in absurd no, λ right. absurd (no_rule _ _ _ _ _ _ none right))
 
-pub returns-then-len-on : goal.returns-then-len-on
-returns-then-len-on c =
+pub returns-then-len-on-clause-right : goal.returns-then-len-on-clause-right
+returns-then-len-on-clause-right c =
     let here : slice_get (theory c.args.system.now).rules c.args.rule.0 ≡ Some (rule c.in-Some-at.rule.now) =
     slice_get-map rule c.args.system.now.rules c.args.rule.0
     ∙ ap (option_map rule) (ap (λ rs. slice_get rs c.args.rule.0) (sym (c.as_slice.ensures.value ∙ c.rules-rules.ensures)) ∙ sym c.at.ensures ∙ ap option_copied c.in-Some-at.is) in
@@ -68,3 +69,41 @@ returns-then-len-on c =
       λ e. let no : ⊥ = cc in absurd no,
       λ right. absurd (c.if-len-on.true (premises ∙ cited_count _ _ _ _ _ _ (rule c.in-Some-at.rule.now) here plain right ∙ length-map c.args.on.now (λ id. id.0))),
     )
+
+pub returns-then-not-is_form-clause-code : goal.returns-then-not-is_form-clause-code
+returns-then-not-is_form-clause-code c =
+    form_is_none _ _ _ _ _ _ (λ in_scope. true≢false (sym (c.is_form.ensures.1 in_scope) ∙ c.if-not-is_form.true))
+
+pub returns-in_default-clause-code : goal.returns-in_default-clause-code
+returns-in_default-clause-code c =
+    let none = sym c.in_ok-cited.ensures ∙ ap (option_map (λ js. map (λ j. judgment_scheme j.now) js.items)) c.in_default.is in
+    number_of_none _ _ _ _ _ _ none
+
+pub returns-then-len-on-clause-code : goal.returns-then-len-on-clause-code
+returns-then-len-on-clause-code c =
+    let some = sym c.in_ok-cited.ensures ∙ ap (option_map (λ js. map (λ j. judgment_scheme j.now) js.items)) c.in-Some.is in
+    let here : slice_get (theory c.args.system.now).rules c.args.rule.0 ≡ Some (rule c.in-Some-at.rule.now) =
+    slice_get-map rule c.args.system.now.rules c.args.rule.0
+    ∙ ap (option_map rule) (ap (λ rs. slice_get rs c.args.rule.0) (sym (c.as_slice.ensures.value ∙ c.rules-rules.ensures)) ∙ sym c.at.ensures ∙ ap option_copied c.in-Some-at.is) in
+    let form_is = step_form _ c.always_system.ensures.plain _ _ c.requires.scope.root (c.is_form.ensures.0 c.if-not-is_form.false) in
+    let premises : c.len.result ≡ length (map judgment_scheme c.in-Some-at.rule.now.premises) = c.len.ensures ∙ sym (length-map c.in-Some-at.rule.now.premises judgment_scheme) in
+    counts_differ _ _ _ _ _ _ _ _ form_is some here (λ same. c.if-len-on.true (premises ∙ sym same ∙ length-map c.args.on.now (λ id. id.0)))
+
+pub returns-in-Some-at-clause-code : goal.returns-in-Some-at-clause-code
+returns-in-Some-at-clause-code c =
+    let some = sym c.in_ok-cited.ensures ∙ ap (option_map (λ js. map (λ j. judgment_scheme j.now) js.items)) c.in-Some.is in
+    let here : slice_get (theory c.args.system.now).rules c.args.rule.0 ≡ Some (rule c.in-Some-at.rule.now) =
+    slice_get-map rule c.args.system.now.rules c.args.rule.0
+    ∙ ap (option_map rule) (ap (λ rs. slice_get rs c.args.rule.0) (sym (c.as_slice.ensures.value ∙ c.rules-rules.ensures)) ∙ sym c.at.ensures ∙ ap option_copied c.in-Some-at.is) in
+    let form_is = step_form _ c.always_system.ensures.plain _ _ c.requires.scope.root (c.is_form.ensures.0 c.if-not-is_form.false) in
+    let premises : c.len.result ≡ length (map judgment_scheme c.in-Some-at.rule.now.premises) = c.len.ensures ∙ sym (length-map c.in-Some-at.rule.now.premises judgment_scheme) in
+    let judged = rw c.as_slice-in-Some-at.ensures.value at c.in_ok-is_rule_instance-in-Some-at.ensures in
+    is_no_instance _ _ _ _ _ _ _ _ form_is some here (length-map c.args.on.now (λ id. id.0) ∙ sym c.if-len-on.false ∙ premises)
+    (λ is. true≢false (sym (judged.1 is) ∙ c.if-branch.false))
+
+pub returns-clause-code : goal.returns-clause-code
+returns-clause-code c =
+    let none : slice_get (theory c.args.system.now).rules c.args.rule.0 ≡ None =
+    slice_get-map rule c.args.system.now.rules c.args.rule.0
+    ∙ ap (option_map rule) (ap (λ rs. slice_get rs c.args.rule.0) (sym (c.as_slice.ensures.value ∙ c.rules-rules.ensures)) ∙ sym c.at.ensures ∙ ap option_copied c.in-None.is) in
+    rule_is_none _ _ _ _ _ _ none

@@ -7,6 +7,7 @@ use Rattle.core_proofs.specs.Proof.{within, given_judgments}
 use Rattle.core_proofs.specs.Step.{begin_theorem}
 use Rattle.core_proofs.specs.declared.step.CoreStep.TheVariants.{Begin}
 use Rattle.core_proofs.proofs.Refusing.{IsRefused, kept_of, refuse_begin_inside, refuse_begin_other, refuse_begin_past, begins_at, proceeds, provable_at}
+use Rattle.core_proofs.proofs.Telling.{told, begin_inside, begin_other, begin_past}
 use Rattle.core_proofs.proofs.proving.Proving.begin.Goals as goal
 
 pub returns-then-self-clause-refused : goal.returns-then-self-clause-refused
@@ -42,3 +43,20 @@ invariant_of-self-2 c =
     (within c.self.inside.ended (names c.in_ok-scope.scope) js None)) (sym given)
     (proceeds (kept_of c.self.inside) _ _ c.push.new.self.items (Begin c.args.theorem) c.self.invariant c.in_ok-push.ensures.items
     (begins_at c.self.inside c.self.invariant c.args.theorem.0 c.in-Some.begun.now (names c.in_ok-scope.scope) c.if-self.false c.if-theorem-self.false here c.in_ok-scope.ensures))
+
+pub returns-then-self-clause-told : goal.returns-then-self-clause-told
+returns-then-self-clause-told c =
+    told (kept_of c.self.inside) _ (begin_theorem c.args.theorem.0) _ _ c.self.view_is c.refusal.ensures
+    (begin_inside c.self.inside c.self.invariant c.args.theorem.0 c.if-self.true)
+
+pub returns-then-theorem-self-clause-told : goal.returns-then-theorem-self-clause-told
+returns-then-theorem-self-clause-told c =
+    told (kept_of c.self.inside) _ (begin_theorem c.args.theorem.0) _ _ c.self.view_is c.refusal-then-theorem-self.ensures
+    (begin_other c.self.inside c.self.invariant c.args.theorem.0 c.if-self.false c.if-theorem-self.true)
+
+pub returns-in-None-clause-told : goal.returns-in-None-clause-told
+returns-in-None-clause-told c =
+    let past : slice_get c.self.inside.statements.items c.self.inside.ended ≡ None =
+    ap (λ xs. slice_get xs c.self.inside.ended) (sym c.as_slice.ensures.value) ∙ sym c.at.ensures ∙ ap option_copied c.in-None.is in
+    told (kept_of c.self.inside) _ (begin_theorem c.args.theorem.0) _ _ c.self.view_is c.refusal-in-None.ensures
+    (begin_past c.self.inside c.self.invariant c.args.theorem.0 c.if-self.false past)
