@@ -4,7 +4,7 @@ use Rattle.std.proofs.lemmas.List.{length-map, nil_from_length}
 use Rattle.std.proofs.lemmas.List.{length-reverse, drop_more, take_rest}
 use Rattle.std.specs.List.{AllByRecursion}
 use Rattle.scheme_terms.specs.declared.scheme.MetaDecl.{MetaDecl}
-use Rattle.notation_parser.specs.Plain.{NamesApart}
+use Rattle.term_reader.specs.Names.{NamesApart}
 
 pub empty_map : {X Y : Type 0} (r : Bool) (f : X → Y) (xs : List X) → (IsTrue r ↔ (length xs ≡ 0)) → IsTrue r ↔ (map f xs ≡ [])
 empty_map r f xs h = (λ t. ap (map f) (nil_from_length xs (h.0 t)), λ e. h.1 (sym (length-map xs f) ∙ ap length e))

@@ -8,6 +8,7 @@ use Rattle.rule_schemes.specs.Said.{Want, HasOneReading, HasNoReading, AreFirstT
 use Rattle.rule_schemes.specs.declared.rule.Judgment.{Judgment}
 use Rattle.rule_schemes.specs.declared.reading.Reading.{Reading}
 use Rattle.rule_schemes.specs.declared.reading.Reading.TheVariants.{One, NoReading, Ambiguous, TooLong}
+use Rattle.notation_parser.specs.Ordered.{WrittenForm}
 use Rattle.notation_parser.specs.View.{written, what_is_said}
 
 -- The one reading, none, the first two of several in the reading order, or the number of tokens where these are more than 256.
@@ -20,13 +21,13 @@ IsAnswer sig js scope want ts (Ambiguous a b) =
     (length ts ≤ 256) × AreFirstTwo sig js scope (want ∷ []) ts (0, what_is_said a) (0, what_is_said b)
 IsAnswer sig js scope want ts (TooLong k) = (k ≡ length ts) × (256 < k)
 
--- no new name stands in it
-abbrev pub plainly : said.Written → said.Said
-plainly w = record { written = w; metas = []; knowns = [] }
+-- what a form says in which no new name stands
+abbrev pub plainly : WrittenForm → said.Said
+plainly x = record { written = x.0; metas = []; knowns = x.1 }
 
 -- an answer that tells these readings
-abbrev pub Tells : List said.Written → Reading → Type 0
+abbrev pub Tells : List WrittenForm → Reading → Type 0
 Tells [] NoReading = Unit {0}
-Tells (v ∷ []) (One w ms ks) = (written w ≡ v) × (ms ≡ []) × (ks ≡ [])
+Tells (v ∷ []) (One w ms ks) = (written w ≡ v.0) × (ms ≡ []) × (map known_variable ks ≡ v.1)
 Tells (v ∷ (w ∷ [])) (Ambiguous a b) = (what_is_said a ≡ plainly v) × (what_is_said b ≡ plainly w)
 Tells _ _ = ⊥

@@ -1,22 +1,16 @@
--- Readings at their places in the reading order.
-use Rattle.std.specs.Prelude.{◌≡◌, ℕ, List}
+-- Readings of what is wanted at their places in the reading order.
+use Rattle.std.specs.Prelude.{◌≡◌, List}
 use Rattle.binding_terms.specs.Signature.{Signature}
-use Rattle.binding_terms.specs.declared.grammar.Item.{Item}
-use Rattle.scheme_terms.specs.SchemeTree.{SchemeTree, Values, Parts}
+use Rattle.scheme_terms.specs.Forms.{KnownVariable}
 use Rattle.scheme_terms.specs.declared.scheme.MetaDecl.{MetaDecl}
-use Rattle.rule_schemes.specs.Reading.{Token, Variable, ReadsTerm, ReadsBrackets, ReadsItems}
-use Rattle.rule_schemes.specs.Said.{Way, Ways, way_of_term, bracket_lengths, ways_of_brackets, item_lengths, ways_of_items}
+use Rattle.rule_schemes.specs.Reading.{Token, ReadingScope}
+use Rattle.rule_schemes.specs.Said.{Want, Written, ReadsWanted, Way, way_of_wanted}
+use Rattle.rule_schemes.specs.declared.rule.Judgment.{Judgment}
 
--- a reading of a term that stands at this place
-abbrev pub ReadsTermAt : Signature → List MetaDecl → List Variable → (cat : ℕ) → List Token → Way → SchemeTree → Type 0
-ReadsTermAt sig metas vars c ts w s = (r : ReadsTerm sig metas vars c ts s) × (way_of_term r ≡ w)
+-- what a form writes, and the known variable that a context in it writes
+abbrev pub WrittenForm : Type 0
+WrittenForm = Written × List KnownVariable
 
--- a reading of brackets, with the lengths and the readings of the arguments
-abbrev pub ReadsBracketsAt : Signature → List MetaDecl → List Variable → (params : List ℕ) → List Token → List ℕ → Ways → Values → Type 0
-ReadsBracketsAt sig metas vars params ts ls ws vs =
-    (r : ReadsBrackets sig metas vars params ts vs) × (bracket_lengths r ≡ ls) × (ways_of_brackets r ≡ ws)
-
--- a reading of items, with the lengths and the readings of their slots
-abbrev pub ReadsItemsAt : Signature → List MetaDecl → (vars own : List Variable) → (words : List (List ℕ)) → List Item → List Token → List ℕ → Ways → Parts → Type 0
-ReadsItemsAt sig metas vars own words items ts ls ws xs =
-    (r : ReadsItems sig metas vars own words items ts xs) × (item_lengths r ≡ ls) × (ways_of_items r ≡ ws)
+-- a reading of what is wanted that stands at this place
+abbrev pub ReadsWantedAt : Signature → List Judgment → ReadingScope → List MetaDecl → Want → List Token → Way → WrittenForm → Type 0
+ReadsWantedAt sig js scope metas want ts w x = (r : ReadsWanted sig js scope metas ts want x.0 x.1) × (way_of_wanted r ≡ w)

@@ -1,17 +1,23 @@
 //! Reads a written form in every way that a user's grammar allows.
 #![tactic(auto)]
 
-mod brackets;
-mod chart;
-mod firsts;
+mod contexts;
+mod copies;
+mod heads;
 mod judgments;
+mod knowns;
+mod new_names;
+mod occurring;
+mod outcomes;
+mod over;
+mod parameters;
 mod plain;
 mod reader;
-mod sheet;
-mod splits;
-mod terms;
-mod variables;
-mod words;
+mod renumbering;
+mod sameness;
+mod shaping;
+mod spelling;
+mod used;
 
 pub use plain::{is_plain, is_readable};
 pub use reader::read;

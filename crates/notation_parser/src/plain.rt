@@ -1,13 +1,16 @@
 // The test of what is read so far.
-ghost use Rattle.std.specs.Prelude.{◌≡◌, ◌≢◌, ◌↔◌, IsTrue, None, [], map};
-ghost use Rattle.binding_terms.specs.Signature.{Signature};
+ghost use Rattle.std.specs.Prelude.{◌≡◌, ◌≢◌, ◌↔◌, ◌==◌, ◌≤◌, ◌∷◌, IsTrue, None, [], map, count_by};
 ghost use Rattle.scheme_terms.specs.View.{known_variable};
 ghost use Rattle.std.specs.List.{AllByRecursion};
-ghost use Rattle.notation_parser.specs.Plain.{IsPlain, IsReadable, NamesApart, IsNoContext};
+ghost use Rattle.term_reader.specs.Names.{NamesApart};
+ghost use Rattle.binding_terms.specs.Signature.{Signature, slots};
+ghost use Rattle.notation_parser.specs.Plain.{IsPlain, IsReadable, IsNoContext, HasOneContext, BeginsWith, IsContextFirst, HasContextFirst};
 ghost use Rattle.rule_schemes.specs.Reading.{not_fresh};
-ghost use Rattle.notation_parser.specs.View.{wanted, reading_scope, freshness_of, scope_words};
+ghost use Rattle.notation_parser.specs.Candidates.{IsSpelledOnce};
+ghost use Rattle.term_reader.specs.View.{scope_words};
+ghost use Rattle.notation_parser.specs.View.{wanted, reading_scope, freshness_of};
 
-use binding_terms::{Cat, CatId, Sig, Text};
+use binding_terms::{Cat, CatId, Item, Sig, Text};
 use rule_schemes::{Fresh, Judgment, ReadScope, Want};
 use scheme_terms::{KnownDecl, MetaDecl};
 
@@ -104,15 +107,94 @@ fn no_words(vars: &[(Text, CatId)]) -> bool
     vars.len() == 0
 }
 
-/// Whether forms are read here: neither contexts, known variables nor new names stand in them.
-pub fn is_readable(judgments: &Vec<Judgment>, scope: &ReadScope, want: Want) -> bool
-    ensures { (sig : Signature) → IsTrue result ↔ IsReadable sig judgments.now.items (reading_scope scope.now) (wanted want) }
+/// How many slots of the category the item is.
+fn slots_of(cat: CatId, item: &Item) -> usize
+    ensures count { result ≡ count_by (λ s. s.cat == cat.0) (slots (item.now ∷ [])) }
+    ensures one { result ≤ 1 }
+{
+    match item {
+        Item::Word { text: _, quoted: _ } => 0,
+        Item::Slot { cat: own, binds: _ } => {
+            if own.0 == cat.0 {
+                return 1;
+            }
+            0
+        }
+        Item::Binder(_) => 0,
+    }
+}
+
+fn is_once(cat: CatId, items: &[Item]) -> bool
+    ensures { IsTrue result ↔ (count_by (λ s. s.cat == cat.0) (slots items.now) ≡ 1) }
+{
+    let mut count = 0;
+    for item in items {
+        count += slots_of(cat, item);
+    }
+    count == 1
+}
+
+fn begins_with(cat: CatId, items: &[Item]) -> bool
+    ensures { IsTrue result ↔ BeginsWith cat.0 (slots items.now) }
+{
+    for item in items {
+        if let Item::Slot { cat: own, binds: _ } = item {
+            return own.0 == cat.0;
+        }
+    }
+    false
+}
+
+fn has_one_context(judgment: &Judgment) -> bool
+    ensures { IsTrue result ↔ HasOneContext judgment.now }
+{
+    match judgment.ctx {
+        None => true,
+        Some(cat) => is_once(cat, judgment.items.as_slice()),
+    }
+}
+
+fn is_context_first(judgment: &Judgment) -> bool
+    ensures { IsTrue result ↔ IsContextFirst judgment.now }
+{
+    match judgment.ctx {
+        None => true,
+        Some(cat) => begins_with(cat, judgment.items.as_slice()),
+    }
+}
+
+fn have_one_context(judgments: &[Judgment]) -> bool
+    ensures { IsTrue result ↔ AllByRecursion HasOneContext judgments.now }
+{
+    for judgment in judgments {
+        if !has_one_context(judgment) {
+            return false;
+        }
+    }
+    true
+}
+
+fn are_contexts_first(judgments: &[Judgment]) -> bool
+    ensures { IsTrue result ↔ HasContextFirst judgments.now }
+{
+    for judgment in judgments {
+        if !is_context_first(judgment) {
+            return false;
+        }
+    }
+    true
+}
+
+/// Whether forms are read here, over a grammar in which no word is a spelling of two categories or variables: no known variable is in
+/// scope, and a judgment's context stands first.
+pub fn is_readable(judgments: &Vec<Judgment>, scope: &ReadScope) -> bool
+    ensures { (sig : Signature) → ((reading_scope scope.now).fresh ≢ not_fresh → IsSpelledOnce sig)
+        → IsTrue result ↔ IsReadable sig judgments.now.items (reading_scope scope.now) }
 {
     names_apart(scope.scope.metas.as_slice())
-        && no_contexts(judgments.as_slice())
+        && have_one_context(judgments.as_slice())
+        && are_contexts_first(judgments.as_slice())
         && no_knowns(scope.scope.knowns.as_slice())
-        && is_not_fresh(scope.fresh)
-        && is_no_context(want)
 }
 
 /// Whether nothing binds in forms, and neither contexts, variables nor new names stand in them.

@@ -1,29 +1,64 @@
-ghost use Rattle.std.specs.Prelude.{◌≡◌, IfOk, map};
-ghost use Rattle.scheme_terms.specs.View.{scheme};
-ghost use Rattle.rule_schemes.specs.Said.{a_term, a_judgment};
-ghost use Rattle.notation_parser.specs.Answer.{IsAnswer, Tells, plainly};
-ghost use Rattle.notation_parser.specs.Firsts.{listed};
-ghost use Rattle.notation_parser.specs.Forms.{judgment_of};
+ghost use Rattle.std.specs.Prelude.{◌≡◌, ◌≢◌, ◌++◌, IfOk, OnOk, map};
+ghost use Rattle.rule_schemes.specs.Reading.{not_fresh};
+ghost use Rattle.term_reader.specs.View.{token};
+ghost use Rattle.notation_parser.specs.Answer.{IsAnswer};
+ghost use Rattle.notation_parser.specs.Candidates.{IsSpelledOnce};
 ghost use Rattle.notation_parser.specs.Plain.{IsReadable};
-ghost use Rattle.notation_parser.specs.View.{token, wanted, reading_scope, written, what_is_said};
+ghost use Rattle.notation_parser.specs.Used.{MayBeNew};
+ghost use Rattle.notation_parser.specs.View.{reading_scope, wanted};
 
-use crate::chart::Chart;
-use crate::firsts::Firsts;
-use crate::judgments::{as_judgment, forms};
-use crate::sheet::Sheet;
-use crate::terms::terms;
-use crate::variables::scope_variables;
+use crate::new_names::candidates;
+use crate::over::read_over;
+use crate::used::{decl_again, tell};
 use binding_terms::{NoMemory, Sig};
 use proof_lexer::Token;
-use rule_schemes::{Judgment, ReadScope, Reading, Said, Want, Written};
-use scheme_terms::Scheme;
+use rule_schemes::{Fresh, Judgment, ReadScope, Reading, Want};
+use scheme_terms::MetaDecl;
 use sqlite_items::Items;
 use std::alloc::Global;
 
 /// The most tokens of a form that is read.
 const LONGEST: usize = 256;
 
-/// How the tokens read as what is wanted, with the names of a scope.
+/// The metavariables that the form may bring: none where no new name may stand in it.
+fn may_be_new(
+    alloc: Global,
+    sig: &Sig,
+    scope: &ReadScope,
+    tokens: &[Token<'_>],
+) -> Result<Items<MetaDecl>, NoMemory>
+    requires { (reading_scope scope.now).fresh ≢ not_fresh → IsSpelledOnce sig.now }
+    ensures { IfOk result (MayBeNew sig.now (reading_scope scope.now) (map token tokens.now)) }
+{
+    let metas = scope.scope.metas.as_slice();
+    match scope.fresh {
+        Fresh::No => Ok(Items::new(alloc)),
+        Fresh::Names => candidates(alloc, sig, metas, tokens),
+        Fresh::Head => candidates(alloc, sig, metas, tokens),
+    }
+}
+
+/// Puts these metavariables at the end of the others.
+fn put_all(alloc: Global, all: &mut Items<MetaDecl>, more: &[MetaDecl]) -> Result<(), NoMemory>
+    ensures { OnOk result (all.new ≡ all.old ++ more.now) }
+{
+    for decl in more {
+        all.push(decl_again(alloc, decl)?)?;
+    }
+    Ok(())
+}
+
+/// The metavariables of both lists.
+fn both(alloc: Global, first: &[MetaDecl], second: &[MetaDecl]) -> Result<Items<MetaDecl>, NoMemory>
+    ensures { IfOk result (λ all. all ≡ first.now ++ second.now) }
+{
+    let mut all = Items::new(alloc);
+    put_all(alloc, &mut all, first)?;
+    put_all(alloc, &mut all, second)?;
+    Ok(all)
+}
+
+/// How the tokens read as what is wanted, with the names of a scope and the new names that may stand in the form.
 pub fn read(
     alloc: Global,
     sig: &Sig,
@@ -32,75 +67,16 @@ pub fn read(
     want: Want,
     tokens: &[Token<'_>],
 ) -> Result<Reading, NoMemory>
-    requires { IsReadable sig.now judgments.now.items (reading_scope scope.now) (wanted want) }
+    requires { IsReadable sig.now judgments.now.items (reading_scope scope.now) }
     ensures { IfOk result
         (λ r. IsAnswer sig.now judgments.now.items (reading_scope scope.now) (wanted want) (map token tokens.now) r) }
 {
     if tokens.len() > LONGEST {
         return Ok(Reading::TooLong(tokens.len()));
     }
-    let metas = scope.scope.metas.as_slice();
-    let words = scope.vars.as_slice();
-    let chart = Chart::new(alloc, sig, metas, words, tokens)?;
-    let sheet = Sheet {
-        sig,
-        metas,
-        words,
-        tokens,
-        chart: &chart,
-        contexts: None,
-    };
-    match want {
-        Want::Term(cat) => {
-            let vars = scope_variables(alloc, words)?;
-            let found = terms(alloc, &sheet, vars.as_slice(), cat, 0, tokens.len())?;
-            Ok(answer(alloc, as_terms(found)))
-        }
-        Want::Judgment => {
-            let found = forms(alloc, &sheet, &[], judgments.as_slice())?;
-            Ok(answer(alloc, as_judgments(alloc, found)?))
-        }
-        Want::Context(_) => unreachable!(),
-    }
-}
-
-fn as_terms(found: Firsts<Scheme>) -> Firsts<Written>
-    ensures { listed written result ≡ map a_term (listed scheme found) }
-{
-    match found {
-        Firsts::Nothing => Firsts::Nothing,
-        Firsts::One(a) => Firsts::One(Written::Term(a)),
-        Firsts::Two(a, b) => Firsts::Two(Written::Term(a), Written::Term(b)),
-    }
-}
-
-fn as_judgments(alloc: Global, found: Firsts<Scheme>) -> Result<Firsts<Written>, NoMemory>
-    ensures { IfOk result (λ new. listed written new ≡ map (λ s. a_judgment (judgment_of s)) (listed scheme found)) }
-{
-    match found {
-        Firsts::Nothing => Ok(Firsts::Nothing),
-        Firsts::One(a) => Ok(Firsts::One(as_judgment(alloc, &a)?)),
-        Firsts::Two(a, b) => Ok(Firsts::Two(as_judgment(alloc, &a)?, as_judgment(alloc, &b)?)),
-    }
-}
-
-fn said(alloc: Global, form: Written) -> Said
-    ensures { what_is_said result ≡ plainly (written form) }
-{
-    Said {
-        written: form,
-        metas: Items::new(alloc),
-        knowns: Items::new(alloc),
-    }
-}
-
-/// The answer that tells these readings.
-fn answer(alloc: Global, found: Firsts<Written>) -> Reading
-    ensures { Tells (listed written found) result }
-{
-    match found {
-        Firsts::Nothing => Reading::NoReading,
-        Firsts::One(w) => Reading::One(w, Items::new(alloc), Items::new(alloc)),
-        Firsts::Two(a, b) => Reading::Ambiguous(said(alloc, a), said(alloc, b)),
-    }
+    let new = may_be_new(alloc, sig, scope, tokens)?;
+    let own = scope.scope.metas.as_slice();
+    let metas = both(alloc, own, new.as_slice())?;
+    let found = read_over(alloc, sig, judgments, scope, metas.as_slice(), want, tokens)?;
+    tell(alloc, own.len(), new.as_slice(), found)
 }

@@ -1,46 +1,48 @@
-use Rattle.std.proofs.Common.{◌≡◌, ◌≤◌, length, subst, sym, ◌∙◌, true≢false, slice_range, arith}
-use Rattle.std.proofs.lemmas.List.{length-map}
-use Rattle.notation_parser.proofs.Ranges.{range_all}
+use Rattle.std.proofs.Common.{◌≡◌, Some, slice_get, refl, sym, subst}
+use Rattle.std.proofs.lemmas.Option.{slice_get_read}
 use Rattle.rule_schemes.specs.Said.{IsBefore}
-use Rattle.scheme_terms.specs.View.{scheme}
-use Rattle.notation_parser.specs.Firsts.{listed, AreFirst}
-use Rattle.notation_parser.specs.Cases.{IsMade}
-use Rattle.notation_parser.specs.Forms.{IsFormOf}
-use Rattle.notation_parser.specs.Splitting.{tokens_of}
-use Rattle.notation_parser.specs.View.{token, in_scope}
-use Rattle.notation_parser.proofs.Finding.{AreFirst-same}
-use Rattle.notation_parser.proofs.Splitting.{if_ok}
-use Rattle.notation_parser.proofs.TermCases.{made_in_splits}
-use Rattle.notation_parser.proofs.Usable.{usable_splits}
+use Rattle.term_reader.specs.Firsts.{AreFirst}
+use Rattle.term_reader.specs.Splitting.{AreKnown, tokens_of}
+use Rattle.term_reader.specs.View.{in_scope}
+use Rattle.term_reader.proofs.Finding.{AreFirst-same}
+use Rattle.term_reader.proofs.SplitLemmas.{if_ok}
+use Rattle.notation_parser.specs.Forms.{IsReadAs}
+use Rattle.notation_parser.specs.View.{reading_scope}
+use Rattle.notation_parser.proofs.Judging.{form_at_front, closed_read, open_read}
 use Rattle.notation_parser.proofs.judgments.form.Goals as goal
 
-pub in_splits-requires-clause-usable : goal.in_splits-requires-clause-usable
-in_splits-requires-clause-usable c =
+pub closed-requires-clause-vars : goal.closed-requires-clause-vars
+closed-requires-clause-vars c = subst (AreKnown c.args.sheet.now) (sym c.requires.vars) c.requires.scope.1
+
+pub open-requires-clause-one : goal.open-requires-clause-one
+open-requires-clause-one c =
+    let js = c.args.judgments.now in
+    let j = c.index-judgments-k.result in
+    let here : slice_get js c.args.k ≡ Some j = slice_get_read js _ c.args.k j refl c.requires.number c.index-judgments-k.is in
+    rw c.as_slice-items.ensures (form_at_front js c.args.k j c.in-Some.cat here c.in-Some.is c.requires.one c.requires.first)
+
+pub returns-in_ok-found-in-None : goal.returns-in_ok-found-in-None
+returns-in_ok-found-in-None c =
     let sheet = c.args.sheet.now in
-    let same : length sheet.tokens.now ≤ length sheet.tokens.now = omega arith in
-    rw c.as_slice.ensures (usable_splits sheet 0 (length sheet.tokens.now) same c.args.items.now _ c.in_ok-all.ensures)
-
-pub in_splits-requires-clause-in_order : goal.in_splits-requires-clause-in_order
-in_splits-requires-clause-in_order c = rw c.as_slice.ensures (c.in_ok-all.ensures).in_order
-
-pub returns-then-not-writes_nothing : goal.returns-then-not-writes_nothing
-returns-then-not-writes_nothing c = λ w s h. true≢false (sym (c.writes_nothing.ensures.1 h.0) ∙ c.if-not-writes_nothing.true)
-
-pub returns : goal.returns
-returns c =
-    let sheet = c.args.sheet.now in
-    let vars = in_scope c.args.vars.now in
+    let js = c.args.judgments.now in
+    let scope = reading_scope c.args.scope.now in
     let ts = tokens_of sheet in
-    let long = length-map sheet.tokens.now token in
-    let some : 0 ≤ length sheet.tokens.now = omega arith in
-    let within : length sheet.tokens.now ≤ length ts = omega (arith, long) in
-    let past : length ts ≤ length sheet.tokens.now = omega (arith, long) in
-    let whole : slice_range ts 0 (length sheet.tokens.now) ≡ ts = range_all ts (length sheet.tokens.now) past in
-    let nothing = c.writes_nothing.ensures.0 c.if-not-writes_nothing.false in
-    if_ok c.in_splits.result _ _ (λ found f. AreFirst-same IsBefore _ (IsFormOf sheet.sig.now sheet.metas.now vars c.args.id.0 c.args.items.now ts) (listed scheme found)
-    (λ w s. ((λ m. (nothing, m)), (λ m. m.1)))
-    (subst (λ us. AreFirst IsBefore (IsMade sheet.sig.now sheet.metas.now vars c.args.id.0 c.args.id.0 c.args.items.now us) (listed scheme found)) whole
-    (AreFirst-same IsBefore _ (IsMade sheet.sig.now sheet.metas.now vars c.args.id.0 c.args.id.0 c.args.items.now (slice_range ts 0 (length sheet.tokens.now))) (listed scheme found)
-    (λ w s. made_in_splits sheet vars c.requires.vars 0 (length sheet.tokens.now) some within c.args.id.0 c.args.id c.args.items.now _ w s c.in_ok-all.ensures)
-    (f c.args.id.0))))
-    (rw c.as_slice.ensures at c.in_splits.ensures)
+    let k = c.args.k in
+    let j = c.index-judgments-k.result in
+    let here : slice_get js k ≡ Some j = slice_get_read js _ k j refl c.requires.number c.index-judgments-k.is in
+    if_ok c.as_judgments.result _ _ (λ found e. subst (AreFirst IsBefore (IsReadAs sheet.sig.now js scope sheet.metas.now k ts)) (sym e)
+    (closed_read sheet.sig.now js scope sheet.metas.now ts k j (in_scope c.args.vars.now) _ here c.in-None.is c.requires.vars
+    (rw (c.in_ok-id.ensures, c.as_slice-items.ensures) at c.in_ok-found-in-None.ensures))) c.as_judgments.ensures
+
+pub returns-in-Some : goal.returns-in-Some
+returns-in-Some c =
+    let sheet = c.args.sheet.now in
+    let js = c.args.judgments.now in
+    let scope = reading_scope c.args.scope.now in
+    let ts = tokens_of sheet in
+    let k = c.args.k in
+    let j = c.index-judgments-k.result in
+    let here : slice_get js k ≡ Some j = slice_get_read js _ k j refl c.requires.number c.index-judgments-k.is in
+    if_ok c.open.result _ _ (λ found f. AreFirst-same IsBefore _ (IsReadAs sheet.sig.now js scope sheet.metas.now k ts) _
+    (λ w x. open_read sheet.sig.now js scope sheet.metas.now ts k j c.in-Some.cat here c.in-Some.is w x) f)
+    (rw (c.asking.ensures, c.in_ok-id.ensures, c.as_slice-items.ensures) at c.open.ensures)

@@ -1,38 +1,40 @@
-use Rattle.std.proofs.Common.{◌+◌, refl}
-use Rattle.std.proofs.lemmas.Option.{slice_get_read}
+use Rattle.std.proofs.Common.{◌+◌, arith}
 use Rattle.rule_schemes.specs.Said.{IsBefore}
-use Rattle.notation_parser.specs.Forms.{IsFormOf, IsForm}
-use Rattle.notation_parser.specs.Splitting.{tokens_of}
-use Rattle.notation_parser.specs.View.{in_scope}
-use Rattle.notation_parser.proofs.Finding.{AreFirst-same, AreFirst-joined}
-use Rattle.notation_parser.proofs.FormCases.{IsFormBelow, one_form_more, all_forms, forms_in_order, forms_enough}
+use Rattle.term_reader.specs.Splitting.{tokens_of}
+use Rattle.term_reader.proofs.Finding.{AreFirst-same, AreFirst-joined}
+use Rattle.notation_parser.specs.Forms.{IsReadAs, IsReadAsAny}
+use Rattle.notation_parser.specs.View.{reading_scope}
+use Rattle.notation_parser.proofs.Judging.{IsReadBelow, one_judgment_more, all_judgments, judgments_in_order, judgments_enough}
 use Rattle.notation_parser.proofs.judgments.forms.Goals as goal
+
+pub loop-k-init : goal.loop-k-init
+loop-k-init c = λ w x h. omega (arith, h.1)
 
 pub loop-k-preserved : goal.loop-k-preserved
 loop-k-preserved c =
     let sheet = c.args.sheet.now in
     let sig = sheet.sig.now in
-    let ts = tokens_of sheet in
-    let ms = sheet.metas.now in
-    let vars = in_scope c.args.vars.now in
     let js = c.args.judgments.now in
-    let j = c.index-judgments-k.result in
-    AreFirst-same IsBefore _ (IsFormBelow (c.loop-k.k + 1) sig ms vars js ts) _
-    (λ w s. one_form_more sig ms vars js ts c.loop-k.k j w s (slice_get_read js _ c.loop-k.k j refl c.loop-k-test.true c.index-judgments-k.is))
-    (AreFirst-joined IsBefore (IsFormBelow c.loop-k.k sig ms vars js ts) (IsFormOf sig ms vars c.loop-k.k j.items ts) _ _ _
-    (forms_in_order sig ms vars js ts c.loop-k.k j) c.joined-found.ensures c.loop-k.invariant
-    (rw (c.in_ok-number.ensures, c.as_slice.ensures, ← c.index-judgments-k.is) at c.in_ok-more.ensures))
+    let scope = reading_scope c.args.scope.now in
+    let ms = sheet.metas.now in
+    let ts = tokens_of sheet in
+    let n = c.loop-k.k in
+    AreFirst-same IsBefore _ (IsReadBelow sig js scope ms ts (n + 1)) _ (λ w x. one_judgment_more sig js scope ms ts n w x)
+    (AreFirst-joined IsBefore (IsReadBelow sig js scope ms ts n) (IsReadAs sig js scope ms n ts) _ _ _
+    (λ k l a x f g. judgments_in_order sig js scope ms ts n k l a x f g) c.both-found.ensures c.loop-k.invariant c.in_ok-more.ensures)
 
-pub returns-then-is_full : goal.returns-then-is_full
-returns-then-is_full c =
-    forms_enough c.args.sheet.now.sig.now c.args.sheet.now.metas.now (in_scope c.args.vars.now) c.args.judgments.now (tokens_of c.args.sheet.now) c.loop-k.k c.loop-k.found
-    (c.is_full.ensures.0 c.if-is_full.true) c.loop-k.invariant
+pub returns-then-are_two : goal.returns-then-are_two
+returns-then-are_two c =
+    let sheet = c.args.sheet.now in
+    judgments_enough sheet.sig.now c.args.judgments.now (reading_scope c.args.scope.now) sheet.metas.now (tokens_of sheet) c.loop-k.k c.loop-k.found
+    (c.are_two.ensures.0 c.if-are_two.true) c.loop-k.invariant
 
 pub returns : goal.returns
 returns c =
     let sheet = c.args.sheet.now in
     let sig = sheet.sig.now in
+    let js = c.args.judgments.now in
+    let scope = reading_scope c.args.scope.now in
     let ts = tokens_of sheet in
-    let vars = in_scope c.args.vars.now in
-    AreFirst-same IsBefore _ (IsForm sig sheet.metas.now vars c.args.judgments.now ts) _
-    (λ w s. all_forms sig sheet.metas.now vars c.args.judgments.now ts c.loop-k.k w s c.loop-k-test.false) c.loop-k.invariant
+    AreFirst-same IsBefore _ (IsReadAsAny sig js scope sheet.metas.now ts) _
+    (λ w x. all_judgments sig js scope sheet.metas.now ts c.loop-k.k w x c.loop-k-test.false) c.loop-k.invariant

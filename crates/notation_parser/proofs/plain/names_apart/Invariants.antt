@@ -1,5 +1,5 @@
 use Rattle.std.proofs.Common.{◌↔◌, drop}
-use Rattle.notation_parser.specs.Plain.{NamesApart}
+use Rattle.term_reader.specs.Names.{NamesApart}
 use Rattle.notation_parser.proofs.plain.names_apart.Given as goal
 
 abbrev pub invariant-loop-i : goal.invariant-loop-i

@@ -1,40 +1,38 @@
-use Rattle.std.proofs.Common.{◌≡◌, ◌≤◌, length, map, ap, arith, slice_range, subst}
+use Rattle.std.proofs.Common.{◌≡◌, ◌≤◌, ◌++◌, length, map, ap, sym, subst, ◌∙◌, arith}
 use Rattle.std.proofs.lemmas.List.{length-map}
-use Rattle.notation_parser.proofs.Ranges.{range_all}
-use Rattle.scheme_terms.specs.View.{scheme}
-use Rattle.rule_schemes.specs.Said.{want_term, want_judgment, IsBefore}
-use Rattle.notation_parser.specs.Firsts.{listed, AreFirst}
-use Rattle.notation_parser.specs.Ordered.{ReadsTermAt}
-use Rattle.notation_parser.specs.View.{token, wanted, reading_scope}
-use Rattle.notation_parser.proofs.ChartLemmas.{scope_allowed}
-use Rattle.notation_parser.proofs.Telling.{terms_said, judgments_said, answered}
+use Rattle.rule_schemes.specs.Said.{IsBefore}
+use Rattle.term_reader.specs.Firsts.{listed, AreFirst}
+use Rattle.term_reader.specs.View.{token}
+use Rattle.notation_parser.specs.Ordered.{ReadsWantedAt}
+use Rattle.notation_parser.specs.Used.{MayBeNew, KnownsInScope}
+use Rattle.notation_parser.specs.Renaming.{OccursInKnowns}
+use Rattle.notation_parser.specs.View.{outcome, reading_scope, wanted}
+use Rattle.notation_parser.proofs.UsedAnswer.{names_apart_all, readable_over}
 use Rattle.notation_parser.proofs.reader.read.Goals as goal
 
-pub terms-requires-clause-vars : goal.terms-requires-clause-vars
-terms-requires-clause-vars c =
-    rw (c.as_slice.ensures, c.in_ok-vars-in-Term.ensures, c.as_slice-words.ensures) (scope_allowed c.args.sig.now c.args.scope.now.vars)
-
-pub returns-in-Term : goal.returns-in-Term
-returns-in-Term c =
-    let ts = map token c.args.tokens.now in
+pub read_over-requires : goal.read_over-requires
+read_over-requires c =
     let scope = reading_scope c.args.scope.now in
-    let want : wanted c.args.want ≡ want_term c.in-Term.cat.0 = ap wanted c.in-Term.is in
-    let short : length ts ≤ 256 = omega (arith, length-map c.args.tokens.now token) in
-    let past : length ts ≤ length c.args.tokens.now = omega (arith, length-map c.args.tokens.now token) in
-    let whole : slice_range ts 0 (length c.args.tokens.now) ≡ ts = range_all ts (length c.args.tokens.now) past in
-    answered c.args.sig.now c.args.judgments.now.items scope (wanted c.args.want) ts _ _ short
-    (terms_said c.args.sig.now c.args.judgments.now.items scope (wanted c.args.want) ts c.requires c.in-Term.cat.0 _ want
-    (subst (λ us. AreFirst IsBefore (ReadsTermAt c.args.sig.now scope.names.metas scope.vars c.in-Term.cat.0 us) (listed scheme c.in_ok-found-in-Term.found)) whole
-    (rw (c.as_slice-metas.ensures, c.as_slice.ensures, c.in_ok-vars-in-Term.ensures, c.as_slice-words.ensures) at c.in_ok-found-in-Term.ensures)))
-    (rw c.as_terms.ensures at c.answer.ensures)
+    let all : c.as_slice-2.result.now ≡ scope.names.metas ++ c.in_ok-new.new =
+    c.as_slice-2.ensures ∙ c.in_ok-metas.ensures ∙ ap (λ xs. xs ++ c.as_slice.result.now) c.as_slice-own.ensures ∙ ap (λ ys. scope.names.metas ++ ys) c.as_slice.ensures in
+    rw all
+    (readable_over c.args.judgments.now.items scope scope.names.metas (scope.names.metas ++ c.in_ok-new.new) c.requires.over
+    (names_apart_all c.args.sig.now scope (map token c.args.tokens.now) c.in_ok-new.new c.in_ok-new.ensures c.requires.over.names))
 
-pub returns-in-Judgment : goal.returns-in-Judgment
-returns-in-Judgment c =
-    let ts = map token c.args.tokens.now in
+pub returns : goal.returns
+returns c =
     let scope = reading_scope c.args.scope.now in
-    let want : wanted c.args.want ≡ want_judgment = ap wanted c.in-Judgment.is in
-    let short : length ts ≤ 256 = omega (arith, length-map c.args.tokens.now token) in
-    answered c.args.sig.now c.args.judgments.now.items scope (wanted c.args.want) ts _ _ short
-    (judgments_said c.args.sig.now c.args.judgments.now.items scope (wanted c.args.want) ts c.requires _ want
-    (rw (c.as_slice-metas.ensures, c.as_slice-in-Judgment.ensures.value) at c.in_ok-found-in-Judgment.ensures))
-    (rw c.in_ok-as_judgments-in-Judgment.ensures at c.answer-in-Judgment.ensures)
+    let sig = c.args.sig.now in
+    let js = c.args.judgments.now.items in
+    let want = wanted c.args.want in
+    let ts = map token c.args.tokens.now in
+    let new = c.as_slice-3.result.now in
+    let all : c.as_slice-2.result.now ≡ scope.names.metas ++ new =
+    c.as_slice-2.ensures ∙ c.in_ok-metas.ensures ∙ ap (λ xs. xs ++ c.as_slice.result.now) c.as_slice-own.ensures
+    ∙ ap (λ ys. scope.names.metas ++ ys) (c.as_slice.ensures ∙ sym c.as_slice-3.ensures) in
+    let may : MayBeNew sig scope ts new = subst (MayBeNew sig scope ts) (sym c.as_slice-3.ensures) c.in_ok-new.ensures in
+    let none : KnownsInScope scope = λ m h. absurd (subst (λ ks. OccursInKnowns m ks) c.requires.knowns h) in
+    let short : length ts ≤ 256 = omega (arith, length-map c.args.tokens.now token, c.if-tokens-gt-LONGEST.false) in
+    let found : AreFirst IsBefore (ReadsWantedAt sig js scope (scope.names.metas ++ new) want ts) (listed outcome c.in_ok-found.found) =
+    subst (λ metas. AreFirst IsBefore (ReadsWantedAt sig js scope metas want ts) (listed outcome c.in_ok-found.found)) all c.in_ok-found.ensures in
+    c.tell.ensures sig js scope want ts (ap length c.as_slice-own.ensures) may none short found

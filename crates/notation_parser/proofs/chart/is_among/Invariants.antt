@@ -1,6 +1,0 @@
-use Rattle.std.proofs.Common.{◌↔◌, drop}
-use Rattle.notation_parser.specs.Chart.{IsAmong}
-use Rattle.notation_parser.proofs.chart.is_among.Given as goal
-
-abbrev pub invariant-loop-one : goal.invariant-loop-one
-invariant-loop-one l = IsAmong (drop l.one-index l.words) l.cat l.word ↔ IsAmong l.words l.cat l.word

@@ -1,0 +1,13 @@
+pub mod ChartLemmas
+pub mod ChartRanges
+pub mod ChartSteps
+pub mod Finding
+pub mod PartLemmas
+pub mod Pieces
+pub mod Ranges
+pub mod SplitLemmas
+pub mod TermCases
+pub mod ArgumentLemmas
+pub mod Usable
+pub mod VariableLemmas
+pub mod TermEnds
