@@ -94,29 +94,22 @@ common_kept ds x t is = record {
 common_new : (ds : List Declared) (x : Declared) → AnyByRecursion (λ earlier. HaveCommon earlier x) ds → IsCommon (ds ++ x ∷ []) x.token
 common_new ds x common = record { before = ds; sort = x.sort; after = []; split = refl; common = common }
 
-one_more : (xs : List Declaration) (i : ℕ) (d : Declaration) → i < length xs → map declaration_view (take i xs) ++ declaration_view (get_or xs i d) ∷ [] ≡ map declaration_view (take (i + 1) xs)
+pub one_more : (xs : List Declaration) (i : ℕ) (d : Declaration) → i < length xs → map declaration_view (take i xs) ++ declaration_view (get_or xs i d) ∷ [] ≡ map declaration_view (take (i + 1) xs)
 one_more xs i d lt = sym (map-append declaration_view (take i xs) (get_or xs i d ∷ [])) ∙ ap (map declaration_view) (sym (take_more xs i d lt))
 
 -- one declaration more, with a common spelling
-pub common_more : (xs : List Declaration) (i : ℕ) (d : Declaration) (f : Found) (a r : Option Found) → i < length xs
-    → AnyByRecursion (λ earlier. HaveCommon earlier (declaration_view (get_or xs i d))) (map declaration_view (take i xs))
-    → IsFoundAt Duplicate (declaration_view (get_or xs i d)).token f → IsEarlierOf a (Some f) r
-    → IsLeast (AtToken Duplicate (IsCommon (map declaration_view (take i xs)))) a → IsLeast (AtToken Duplicate (IsCommon (map declaration_view (take (i + 1) xs)))) r
-common_more xs i d f a r lt common found is all =
-    let ds = map declaration_view (take i xs) in let x = declaration_view (get_or xs i d) in
-    subst (λ ys. IsLeast (AtToken Duplicate (IsCommon ys)) r) (one_more xs i d lt)
-    (least_token_more Duplicate (IsCommon ds) (IsCommon (ds ++ x ∷ [])) x.token f a r (common_kept ds x)
-    (λ s y. elim (common_cases ds x s y) [ inl l ↦ inl l | inr m ↦ inr m.0 ]) (common_new ds x common) found is all)
+pub common_more : (ds : List Declared) (x : Declared) (f : Found) (a r : Option Found) → AnyByRecursion (λ earlier. HaveCommon earlier x) ds → IsFoundAt Duplicate x.token f
+    → IsEarlierOf a (Some f) r → IsLeast (AtToken Duplicate (IsCommon ds)) a → IsLeast (AtToken Duplicate (IsCommon (ds ++ x ∷ []))) r
+common_more ds x f a r common found is all =
+    least_token_more Duplicate (IsCommon ds) (IsCommon (ds ++ x ∷ [])) x.token f a r (common_kept ds x)
+    (λ s y. elim (common_cases ds x s y) [ inl l ↦ inl l | inr m ↦ inr m.0 ]) (common_new ds x common) found is all
 
 -- one without
-pub common_same : (xs : List Declaration) (i : ℕ) (d : Declaration) (a : Option Found) → i < length xs
-    → (AnyByRecursion (λ earlier. HaveCommon earlier (declaration_view (get_or xs i d))) (map declaration_view (take i xs)) → ⊥)
-    → IsLeast (AtToken Duplicate (IsCommon (map declaration_view (take i xs)))) a → IsLeast (AtToken Duplicate (IsCommon (map declaration_view (take (i + 1) xs)))) a
-common_same xs i d a lt none all =
-    let ds = map declaration_view (take i xs) in let x = declaration_view (get_or xs i d) in
-    subst (λ ys. IsLeast (AtToken Duplicate (IsCommon ys)) a) (one_more xs i d lt)
-    (least_token_same Duplicate (IsCommon ds) (IsCommon (ds ++ x ∷ [])) a (common_kept ds x)
-    (λ s y. elim (common_cases ds x s y) [ inl l ↦ l | inr m ↦ absurd (none m.1) ]) all)
+pub common_same : (ds : List Declared) (x : Declared) (a : Option Found) → (AnyByRecursion (λ earlier. HaveCommon earlier x) ds → ⊥)
+    → IsLeast (AtToken Duplicate (IsCommon ds)) a → IsLeast (AtToken Duplicate (IsCommon (ds ++ x ∷ []))) a
+common_same ds x a none all =
+    least_token_same Duplicate (IsCommon ds) (IsCommon (ds ++ x ∷ [])) a (common_kept ds x)
+    (λ s y. elim (common_cases ds x s y) [ inl l ↦ l | inr m ↦ absurd (none m.1) ]) all
 
 no_common : (t : PlainToken) → IsCommon [] t → ⊥
 no_common t is = nothing_before is.before (declared_as is.sort t) is.after is.split

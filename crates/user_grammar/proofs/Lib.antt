@@ -2,11 +2,6 @@ pub mod Spellings
 pub mod OneWay
 pub mod OneReading
 pub mod OneSignature
-pub mod BareItems
-pub mod Making
-pub mod BareGrammars
-pub mod MadeGrammars
-pub mod Found
 pub mod MadeReadings
 pub mod MadeDecided
 pub mod MadeNames
@@ -31,7 +26,9 @@ pub mod FaultLawsNames
 pub mod FaultLawsContexts
 pub mod FaultLaws
 pub mod FaultLeast
+pub mod NameIndexes
 pub mod FaultDeclared
+pub mod FaultSeen
 pub mod FaultNames
 pub mod FaultForm
 pub mod FaultAssumed

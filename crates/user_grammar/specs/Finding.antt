@@ -10,6 +10,7 @@ use Rattle.user_grammar.specs.File.{WrittenCategory, categories, listed}
 use Rattle.user_grammar.specs.Made.{plains}
 use Rattle.user_grammar.specs.Fault.{IsToldFirst, Sort, a_terminal, a_category, a_variable, Declared, declared_as, IsSpelledAs, AreVariables, IsOneSlot, AssumesHere, category_texts}
 use Rattle.user_grammar.specs.Names.{IsAmong}
+use Rattle.user_grammar.specs.Indexed.{HaveSame, names_in}
 use Rattle.user_grammar.specs.Production.{IsMark}
 use Rattle.user_grammar.specs.declared.fault_form.Expected.{Expected}
 use Rattle.user_grammar.specs.declared.fault_form.Expected.TheVariants as expected
@@ -18,6 +19,7 @@ use Rattle.user_grammar.specs.declared.fault_lists.Written.{Written}
 use Rattle.user_grammar.specs.declared.fault_lists.Lists.{Lists}
 use Rattle.user_grammar.specs.declared.fault_names.Names.{Names}
 use Rattle.user_grammar.specs.declared.fault_declared.Declaration.{Declaration}
+use Rattle.user_grammar.specs.declared.fault_declared.Seen.{Seen}
 use Rattle.user_grammar.specs.declared.fault_declared.Means.{Means}
 use Rattle.user_grammar.specs.declared.fault_declared.Means.TheVariants as means
 
@@ -69,7 +71,7 @@ portions_of lists = plains lists.portions.now
 -- these are the categories and the listed terminals of the portions
 pub record AreLists (lists : Lists) : Type 0 where
   pub categories : map written_view lists.categories.now ≡ categories (portions_of lists)
-  pub listed : map (λ text. text.now) lists.listed.now ≡ listed (portions_of lists)
+  pub listed : HaveSame (names_in lists.listed.now) (listed (portions_of lists))
 
 -- one code stands at a token that is so, with the token's text
 abbrev pub AtToken : Code → (PlainToken → Type 0) → Code → PlainToken → List ℕ → Type 0
@@ -92,6 +94,29 @@ sort_view means.Variable = a_variable
 
 abbrev pub declaration_view : Declaration → Declared
 declaration_view declaration = declared_as (sort_view declaration.means) (token_view declaration.token.now)
+
+-- the word of a listed terminal, and of another declaration none
+abbrev pub words_if : Sort → PlainToken → List (List ℕ)
+words_if a_terminal token = token.text ∷ []
+words_if a_category token = []
+words_if a_variable token = []
+
+abbrev pub terminal_words : Declared → List (List ℕ)
+terminal_words d = words_if d.sort d.token
+
+-- the declaration of a category or a variable, and of a listed terminal none
+abbrev pub alone_if : Sort → PlainToken → List Declared
+alone_if a_terminal token = []
+alone_if a_category token = declared_as a_category token ∷ []
+alone_if a_variable token = declared_as a_variable token ∷ []
+
+abbrev pub names_alone : Declared → List Declared
+names_alone d = alone_if d.sort d.token
+
+-- what was seen are the words of the listed terminals among the declarations, and its categories and variables
+pub record HaveSeen (before : List Declared) (seen : Seen) : Type 0 where
+  pub terminals : HaveSame (names_in seen.terminals) (flat_map terminal_words before)
+  pub names : map declaration_view seen.names.items ≡ flat_map names_alone before
 
 -- two declared words have a common spelling
 pub record HaveCommon (one other : Declared) : Type 0 where

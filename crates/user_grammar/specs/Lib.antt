@@ -1,5 +1,6 @@
 pub mod File
 pub mod Names
+pub mod Indexed
 pub mod Production
 pub mod Grammar
 pub mod Fault

@@ -3,6 +3,7 @@ ghost use Rattle.std.specs.Prelude.{◌≡◌, IfOk, MatchOption, map};
 ghost use Rattle.user_grammar.specs.File.{categories, listed};
 ghost use Rattle.user_grammar.specs.Fault.{HasNoFault, IsFault, IsFirstFault};
 ghost use Rattle.user_grammar.specs.Finding.{AreLists, AreNames, IsLeast, portions_of, written_view};
+ghost use Rattle.user_grammar.specs.Indexed.{HaveSame, names_in};
 ghost use Rattle.user_grammar.specs.Made.{plains};
 ghost use Rattle.user_grammar.specs.FindingPlaces.{ButContexts, IsTold};
 
@@ -14,6 +15,7 @@ use crate::fault_front::first_bad_context;
 use crate::fault_lists::{Lists, Written, lent_categories};
 use crate::fault_names::{Names, all_variables};
 use crate::fault_tokens::first_at_token;
+use crate::name_index::{NameIndex, indexed};
 use crate::portions::{copied, listed};
 use binding_terms::NoMemory;
 use outline_reader::Portion;
@@ -79,17 +81,17 @@ fn first_by_parts(
     alloc: Global,
     portions: &[Portion<'_>],
     written: &[Written<'_>],
-    texts: &[&[u8]],
+    terminals: &NameIndex<'_>,
 ) -> Result<Option<Fault>, NoMemory>
     requires written { map written_view written.now ≡ categories (plains portions.now) }
-    requires texts { map (λ text. text.now) texts.now ≡ listed (plains portions.now) }
+    requires terminals { HaveSame (names_in terminals.now) (listed (plains portions.now)) }
     ensures { IfOk result (λ found. MatchOption found (HasNoFault (plains portions.now))
         (λ fault. IsFirstFault (plains portions.now) fault.line fault.code fault.detail)) }
 {
     let lists = Lists {
         portions,
         categories: written,
-        listed: texts,
+        listed: terminals,
     };
     first_by_lists(alloc, &lists)
 }
@@ -101,5 +103,6 @@ pub fn first_fault(alloc: Global, portions: &[Portion<'_>]) -> Result<Option<Fau
 {
     let written = lent_categories(alloc, portions)?;
     let texts = listed(alloc, portions)?;
-    first_by_parts(alloc, portions, written.as_slice(), texts.as_slice())
+    let terminals = indexed(alloc, texts.as_slice())?;
+    first_by_parts(alloc, portions, written.as_slice(), &terminals)
 }

@@ -7,10 +7,12 @@ ghost use Rattle.outline_reader.specs.Plain.{category, plain_form, plain_portion
 ghost use Rattle.outline_reader.specs.Views.{portion_view};
 ghost use Rattle.user_grammar.specs.File.{categories};
 ghost use Rattle.user_grammar.specs.Fault.{Declared, DeclareAll, DeclaresHere, IsDuplicate, IsSpelledAs, a_terminal, a_variable, declared_as};
+ghost use Rattle.user_grammar.specs.declared.fault_declared.Means.TheVariants.{Terminal};
 ghost use Rattle.user_grammar.specs.Finding.{
   AreLists,
   AtToken,
   HaveCommon,
+  HaveSeen,
   IsCommon,
   IsLeast,
   IsOneToken,
@@ -24,6 +26,7 @@ ghost use Rattle.user_grammar.specs.Finding.{
 use crate::fault_found::{Found, at_token, earlier};
 use crate::fault_lists::Lists;
 use crate::fault_names::variables;
+use crate::name_index::{NameIndex, add_name, has_name, no_names};
 use crate::names::is_same;
 use crate::spelling::is_spelling;
 use binding_terms::NoMemory;
@@ -147,7 +150,8 @@ fn have_common(one: &Declaration<'_>, other: &Declaration<'_>) -> bool
     is_spelled_as(other, one.token.text.as_bytes())
 }
 
-fn has_common(before: &[Declaration<'_>], declaration: &Declaration<'_>) -> bool
+/// Whether one of some declared words has a common spelling with another.
+fn some_common(before: &[Declaration<'_>], declaration: &Declaration<'_>) -> bool
     ensures { IsTrue result ↔ AnyByRecursion (λ earlier. HaveCommon earlier (declaration_view declaration.now))
         (map declaration_view before.now) }
 {
@@ -159,17 +163,94 @@ fn has_common(before: &[Declaration<'_>], declaration: &Declaration<'_>) -> bool
     false
 }
 
-/// The first word that has a common spelling with one that is declared before it.
-fn first_common<'a>(all: &[Declaration<'a>]) -> Option<Found<'a>>
-    ensures { IsLeast (AtToken Duplicate (IsCommon (map declaration_view all.now))) result }
+/// What was declared so far: the listed terminals, with look-up, and the categories and variables.
+#[derive(Drop)]
+pub struct Seen<'a> {
+    pub terminals: NameIndex<'a>,
+    pub names: Vec<Declaration<'a>>,
+}
+
+/// Whether a listed terminal has a common spelling with what was declared: it is listed before, or it is spelled as a category or a variable.
+fn terminal_common(seen: &Seen<'_>, declaration: &Declaration<'_>) -> bool
+    requires { declaration.now.means ≡ Terminal }
+    ensures { (before : List Declared) → HaveSeen before seen.now
+        → IsTrue result ↔ AnyByRecursion (λ earlier. HaveCommon earlier (declaration_view declaration.now)) before }
 {
-    let mut found = None;
-    for (number, declaration) in all.iter().enumerate() {
-        if has_common(&all[..number], declaration) {
-            found = earlier(found, Some(at_token(Code::Duplicate, declaration.token)));
-        }
+    if has_name(&seen.terminals, declaration.token.text.as_bytes()) {
+        return true;
+    }
+    some_common(seen.names.as_slice(), declaration)
+}
+
+/// Whether a declared word has a common spelling with one that is declared before it.
+fn has_common(seen: &Seen<'_>, before: &[Declaration<'_>], declaration: &Declaration<'_>) -> bool
+    requires { HaveSeen (map declaration_view before.now) seen.now }
+    ensures { IsTrue result ↔ AnyByRecursion (λ earlier. HaveCommon earlier (declaration_view declaration.now))
+        (map declaration_view before.now) }
+{
+    match declaration.means {
+        Means::Terminal => terminal_common(seen, declaration),
+        Means::Category => some_common(before, declaration),
+        Means::Variable => some_common(before, declaration),
+    }
+}
+
+/// The first word with a common spelling, where one more word is declared.
+fn common_found<'a>(
+    seen: &Seen<'_>,
+    before: &[Declaration<'_>],
+    declaration: &Declaration<'a>,
+    found: Option<Found<'a>>,
+) -> Option<Found<'a>>
+    requires { HaveSeen (map declaration_view before.now) seen.now }
+    ensures { IsLeast (AtToken Duplicate (IsCommon (map declaration_view before.now))) found.entry
+        → IsLeast (AtToken Duplicate (IsCommon (map declaration_view before.now ++ declaration_view declaration.now ∷ []))) result }
+{
+    if has_common(seen, before, declaration) {
+        return earlier(found, Some(at_token(Code::Duplicate, declaration.token)));
     }
     found
+}
+
+/// Nothing was declared.
+fn nothing_seen<'a>(alloc: Global) -> Seen<'a>
+    ensures { HaveSeen [] result }
+{
+    Seen {
+        terminals: no_names(alloc),
+        names: Vec::new(alloc),
+    }
+}
+
+/// Adds a declaration to what was declared.
+fn see<'a>(seen: &mut Seen<'a>, declaration: &Declaration<'a>) -> Result<(), NoMemory>
+    ensures { OnOk result ((before : List Declared) → HaveSeen before seen.old
+        → HaveSeen (before ++ declaration_view declaration.now ∷ []) seen.new) }
+{
+    match declaration.means {
+        Means::Terminal => add_name(&mut seen.terminals, declaration.token.text.as_bytes()),
+        Means::Category => {
+            seen.names.push(*declaration)?;
+            Ok(())
+        }
+        Means::Variable => {
+            seen.names.push(*declaration)?;
+            Ok(())
+        }
+    }
+}
+
+/// The first word that has a common spelling with one that is declared before it.
+fn first_common<'a>(alloc: Global, all: &[Declaration<'a>]) -> Result<Option<Found<'a>>, NoMemory>
+    ensures { IfOk result (IsLeast (AtToken Duplicate (IsCommon (map declaration_view all.now)))) }
+{
+    let mut seen = nothing_seen(alloc);
+    let mut found = None;
+    for (number, declaration) in all.iter().enumerate() {
+        found = common_found(&seen, &all[..number], declaration, found);
+        see(&mut seen, declaration)?;
+    }
+    Ok(found)
 }
 
 /// The first of some tokens, with a code.
@@ -219,7 +300,7 @@ pub fn first_duplicate<'a>(alloc: Global, lists: &Lists<'a>) -> Result<Option<Fo
     ensures { IfOk result (IsLeast (AtToken Duplicate (IsDuplicate (portions_of lists.now)))) }
 {
     let all = declarations(alloc, lists)?;
-    let common = first_common(all.as_slice());
+    let common = first_common(alloc, all.as_slice())?;
     let second = first_second(alloc, lists)?;
     Ok(earlier(common, second))
 }

@@ -6,6 +6,7 @@ ghost use Rattle.user_grammar.specs.File.{categories, category_in};
 ghost use Rattle.user_grammar.specs.Finding.{written_view};
 ghost use Rattle.user_grammar.specs.Made.{plains};
 
+use crate::name_index::NameIndex;
 use binding_terms::NoMemory;
 use outline_reader::{Form, Name, Portion};
 use std::alloc::Global;
@@ -22,7 +23,7 @@ pub struct Written<'a> {
 pub struct Lists<'a> {
     pub portions: &'a [Portion<'a>],
     pub categories: &'a [Written<'a>],
-    pub listed: &'a [&'a [u8]],
+    pub listed: &'a NameIndex<'a>,
 }
 
 fn add_written<'p>(portion: &'p Portion<'_>, all: &mut Vec<Written<'p>>) -> Result<(), NoMemory>

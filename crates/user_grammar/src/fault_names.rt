@@ -1,8 +1,8 @@
 // Of which names a word is a spelling, and which forms are variables.
-ghost use Rattle.std.specs.Prelude.{◌≡◌, ◌↔◌, ◌++◌, ◌∷◌, [], List, IsTrue, IfOk, OnOk, map, MatchOption};
+ghost use Rattle.std.specs.Prelude.{◌≡◌, ◌↔◌, ◌⊎◌, ◌++◌, ◌∷◌, [], List, IsTrue, IfOk, OnOk, map, MatchOption};
 ghost use Rattle.binding_terms.specs.Numbered.{AnyByRecursion};
-ghost use Rattle.sy_base.specs.Tokens.{PlainToken};
-ghost use Rattle.proof_lexer.specs.View.{token_view};
+ghost use Rattle.sy_base.specs.Tokens.{PlainToken, is_numeral};
+ghost use Rattle.proof_lexer.specs.View.{kind_number, token_view};
 ghost use Rattle.outline_reader.specs.Plain.{plain_form};
 ghost use Rattle.rule_schemes.specs.Reading.{IsSpelling};
 ghost use Rattle.user_grammar.specs.File.{categories, listed};
@@ -12,11 +12,12 @@ ghost use Rattle.user_grammar.specs.Fault.{AreVariables, DeclaresVariable, IsBin
 ghost use Rattle.user_grammar.specs.Finding.{AreLists, AreNames, all_forms, portions_of, written_view};
 
 use crate::fault_lists::{Lists, Written};
+use crate::name_index::has_name;
 use crate::spelling::is_spelling;
-use crate::tokens::{is_listed, is_terminal, is_word};
+use crate::tokens::{is_parenthesis, is_word, may_be_terminal};
 use binding_terms::NoMemory;
 use outline_reader::{Form, Name};
-use proof_lexer::{Token, is_numeral};
+use proof_lexer::{Kind, Token, is_numeral};
 use std::alloc::Global;
 
 /// The lists of a file, and the variables of its categories.
@@ -68,7 +69,22 @@ fn is_listed_word(lists: &Lists<'_>, word: &[u8]) -> bool
     requires { AreLists lists.now }
     ensures { IsTrue result ↔ IsAmong (listed (portions_of lists.now)) word.now }
 {
-    is_listed(lists.listed, word)
+    has_name(lists.listed, word)
+}
+
+/// Whether a word may be a terminal of the file, and any other token.
+fn is_known(lists: &Lists<'_>, token: &Token<'_>) -> bool
+    requires { AreLists lists.now }
+    ensures { IsTrue result ↔ (kind_number token.now.kind ≡ 0
+        → IsAmong (listed (portions_of lists.now)) token.now.text.now ⊎ IsTrue (is_numeral token.now.text.now)) }
+{
+    match token.kind {
+        Kind::Word => is_listed_word(lists, token.text.as_bytes()) || is_numeral(token.text),
+        Kind::Symbol => true,
+        Kind::Punct => true,
+        Kind::Bar => true,
+        Kind::Quoted => true,
+    }
 }
 
 /// Whether a token may be a terminal of the file.
@@ -76,7 +92,9 @@ pub fn may_stand(lists: &Lists<'_>, token: &Token<'_>) -> bool
     requires { AreLists lists.now }
     ensures { IsTrue result ↔ IsTerminal (listed (portions_of lists.now)) (token_view token.now) }
 {
-    is_terminal(lists.listed, token)
+    may_be_terminal(token.kind, token.text.as_bytes())
+        && !is_parenthesis(token.text.as_bytes())
+        && is_known(lists, token)
 }
 
 /// Whether a token alone is a variable: a word that is no numeral, not listed and no category.

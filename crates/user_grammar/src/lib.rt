@@ -1,7 +1,6 @@
 //! The signature for which the grammar of a file stands.
 #![tactic(auto)]
 
-mod bare_signature;
 mod fault;
 mod fault_assumed;
 mod fault_context;
@@ -18,15 +17,14 @@ mod made;
 mod made_forms;
 mod made_productions;
 mod made_tokens;
+mod name_index;
 mod names;
 mod phase;
 mod portions;
-mod productions;
 mod spelling;
 mod tokens;
 mod worked;
 
-pub use bare_signature::signature;
 pub use laws::{faulty_files_have_no_signature, signatures_are_unique};
 pub use phase::grammar;
 pub use worked::lambda_stands_for_its_signature;

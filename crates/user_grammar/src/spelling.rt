@@ -2,7 +2,6 @@
 ghost use Rattle.std.specs.Prelude.{◌≡◌, ◌≢◌, ◌↔◌, ◌++◌, ℕ, List, IsTrue, MatchOption};
 ghost use Rattle.std.specs.List.{AllByRecursion};
 ghost use Rattle.rule_schemes.specs.Reading.{IsEnding, IsSpelling};
-ghost use Rattle.user_grammar.specs.Names.{AreApart};
 
 fn is_ending(byte: u8) -> bool
     ensures { IsTrue result ↔ IsEnding byte }
@@ -37,14 +36,4 @@ pub fn is_spelling(name: &[u8], word: &[u8]) -> bool
         Some(ending) => are_endings(ending),
         None => false,
     }
-}
-
-/// Whether two names have no common spelling.
-pub fn are_apart(one: &[u8], other: &[u8]) -> bool
-    ensures { IsTrue result ↔ AreApart one.now other.now }
-{
-    if is_spelling(one, other) {
-        return false;
-    }
-    !is_spelling(other, one)
 }

@@ -11,6 +11,6 @@ returns c =
     let portions = portions_of c.args.lists.now in
     let all = map declaration_view c.in_ok-all.all.items in
     duplicate_by_two portions all c.earlier.result c.in_ok-all.ensures
-    (least_of_two (AtToken Duplicate (IsCommon all)) (OfSome (Seconds portions) (categories portions)) c.first_common-common.result _ c.earlier.result c.earlier.ensures
-    (subst (λ ds. IsLeast (AtToken Duplicate (IsCommon (map declaration_view ds))) c.first_common-common.result) c.as_slice.ensures.value c.first_common-common.ensures)
+    (least_of_two (AtToken Duplicate (IsCommon all)) (OfSome (Seconds portions) (categories portions)) c.in_ok-common.common _ c.earlier.result c.earlier.ensures
+    (subst (λ ds. IsLeast (AtToken Duplicate (IsCommon (map declaration_view ds))) c.in_ok-common.common) c.as_slice.ensures.value c.in_ok-common.ensures)
     (subst (λ ws. IsLeast (OfSome (Seconds portions) ws) c.in_ok-second.second) c.requires.categories c.in_ok-second.ensures))

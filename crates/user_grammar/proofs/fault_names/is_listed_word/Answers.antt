@@ -1,0 +1,5 @@
+use Rattle.user_grammar.proofs.FaultNames.{by_same}
+use Rattle.user_grammar.proofs.fault_names.is_listed_word.Goals as goal
+
+pub returns : goal.returns
+returns c = by_same c.has_name.result c.has_name.ensures (c.requires.listed c.args.word.now)
