@@ -1,5 +1,5 @@
 -- What rules that stand for written ones meet: their forms are in scope, and each metavariable is strict.
-use Rattle.std.proofs.Common.{◌≡◌, ◌⊎◌, ◌+◌, ◌≤◌, ℕ, zero, suc, List, [], ◌∷◌, ◌++◌, length, map, inl, inr, refl, ap, sym, subst, arith, slice_get, MatchOption}
+use Rattle.std.proofs.Common.{◌≡◌, ◌⊎◌, ◌+◌, ◌≤◌, ℕ, zero, suc, List, [], ◌∷◌, ◌++◌, length, map, inl, inr, refl, ap, sym, subst, arith, Some, slice_get, MatchOption}
 use Rattle.std.specs.List.{AllByRecursion, AllZip}
 use Rattle.binding_terms.specs.Numbered.{AnyByRecursion, AllNumbered}
 use Rattle.binding_terms.specs.Signature.{Signature, Place, slots, binders}
@@ -20,16 +20,17 @@ use Rattle.rule_schemes.specs.declared.fault.RuleFault.TheVariants as faults
 use Rattle.rule_schemes.specs.declared.rule.Judgment.{Judgment}
 use Rattle.judgments.specs.Bare.{IsBareTheory}
 use Rattle.judgments.specs.Built.{IsGoodRule}
-use Rattle.judgments.specs.Collected.{AreCollected}
 use Rattle.judgments.specs.Laws.{AreBareNames}
-use Rattle.judgments.specs.Texts.{RuleText, rule_forms}
+use Rattle.judgments.specs.Texts.{RuleText}
 use Rattle.judgments.specs.Theory.{IsBlockRule}
 use Rattle.judgments.specs.Written.{ReadsOnlyAs}
-use Rattle.judgments.proofs.BareForms.{form_in_scope}
-use Rattle.judgments.proofs.Collecting.{any_split}
-use Rattle.judgments.proofs.RuleLemmas.{closed_names, bare_names, numbered, no_context_read, all_used, over_closed, rule_says}
-use Rattle.judgments.proofs.WordsOfForms.{joined}
-use Rattle.judgments.proofs.Zips.{zip_append, zip_right}
+use Rattle.judgments.proofs.BareForms.{HasUsed, form_in_scope}
+use Rattle.judgments.proofs.Collecting.{any_front, any_back, any_split}
+use Rattle.judgments.proofs.KeptNames.{any_at}
+use Rattle.judgments.proofs.OneRule.{Says, rule_says, plain_for, kept_of, all_front}
+use Rattle.judgments.proofs.RuleLemmas.{closed_names, numbered, no_context_read, over_closed}
+use Rattle.judgments.proofs.StatementLemmas.{place_front, among_at}
+use Rattle.judgments.proofs.Zips.{zip_both, zip_right}
 
 pub found_some : {A : Type 0} (P : A → Type 0) (xs : List A) (n : ℕ) → MatchOption (slice_get xs n) ⊥ P → (x : A) × P x
 found_some P [] n h = absurd h
@@ -98,30 +99,51 @@ any_map P Q [] h a = a
 any_map P Q (x ∷ xs) h (inl a) = inl (h.0 a)
 any_map P Q (x ∷ xs) h (inr a) = inr (any_map P Q xs h.1 a)
 
+-- what stands in one of the judgments is kept, of each of them
+pub kept_each_of : (Q : ℕ → MetaDecl → Type 0) (P : ℕ → MetaDecl → Type 0) (zs : List JudgmentScheme)
+    → ((m : ℕ) (d : MetaDecl) → P m d → AnyByRecursion (OccursInJudgment m) zs → Q m d) → AllByRecursion (λ (j : JudgmentScheme). (m : ℕ) (d : MetaDecl) → OccursInJudgment m j → P m d → Q m d) zs
+kept_each_of Q P [] f = tt
+kept_each_of Q P (z ∷ zs) f = ((λ m d o p. f m d p (inl o)), kept_each_of Q P zs (λ m d p o. f m d p (inr o)))
+
 module _ (th : Theory) (bare : IsBareTheory th) (text : RuleText) (r : Rule) (h : IsBlockRule th.sig th.judgments text r) where
-  says : AreCollected th.sig.cats (joined (rule_forms text)) r.metas × AllZip (ReadsOnlyAs th.sig th.judgments (closed_names r.metas)) text.premises r.premises
-      × ReadsOnlyAs th.sig th.judgments (closed_names r.metas) text.conclusion r.conclusion
+  says : Says th.sig th.judgments bare.sig bare.apart bare.judgments text r
   says = rule_says th.sig th.judgments bare.sig bare.apart bare.judgments text r h
 
-  plain_names : AllByRecursion (λ (d : MetaDecl). d.params ≡ []) r.metas
-  plain_names = bare_names th.sig.cats (joined (rule_forms text)) r.metas (says.0).each
+  abbrev all : List MetaDecl
+  all = r.metas ++ says.unread
 
-  bare_scope : AreBareNames (closed_names r.metas)
-  bare_scope = record { knowns = refl; parameters = plain_names }
+  bare_scope : AreBareNames (closed_names all)
+  bare_scope = plain_for th.sig th.judgments bare.sig bare.apart bare.judgments text all says.gathered
+
+  plain_names : AllByRecursion (λ (d : MetaDecl). d.params ≡ []) r.metas
+  plain_names = all_front (λ (d : MetaDecl). d.params ≡ []) r.metas says.unread bare_scope.parameters
+
+  -- what reads, and that the rule has the metavariables that stand in it
+  abbrev ReadsOver : List Token → JudgmentScheme → Type 0
+  ReadsOver form j = ReadsOnlyAs th.sig th.judgments (closed_names all) form j × HasUsed th.sig th.judgments bare.sig bare.judgments all (rule_names r) j
+
+  kept : (m : ℕ) (d : MetaDecl) → slice_get all m ≡ Some d → AnyByRecursion (OccursInJudgment m) (r.premises ++ r.conclusion ∷ []) → slice_get r.metas m ≡ Some d
+  kept m d g o = kept_of th.sig th.judgments bare.sig bare.apart bare.judgments text r says m d g o
+
+  premises : AllZip ReadsOver text.premises r.premises
+  premises =
+      zip_both (ReadsOnlyAs th.sig th.judgments (closed_names all)) (HasUsed th.sig th.judgments bare.sig bare.judgments all (rule_names r)) text.premises r.premises says.premises
+      (kept_each_of (λ m d. slice_get r.metas m ≡ Some d) (λ m d. slice_get all m ≡ Some d) r.premises
+      (λ m d g o. kept m d g (any_front (OccursInJudgment m) r.premises (r.conclusion ∷ []) o)))
+
+  conclusion : ReadsOver text.conclusion r.conclusion
+  conclusion = (says.conclusion, λ m d o g. kept m d g (any_back (OccursInJudgment m) r.premises (r.conclusion ∷ []) (inl o)))
+
+  over_none : (form : List Token) (j : JudgmentScheme) → ReadsOver form j → j.context ≡ record { root = Closed; entries = [] }
+  over_none form j k = no_context_read th.sig th.judgments bare.sig bare.apart bare.judgments (closed_names all) form j k.0
 
   closed_conclusion : r.conclusion.context ≡ record { root = Closed; entries = [] }
-  closed_conclusion = no_context_read th.sig th.judgments bare.sig bare.apart bare.judgments (closed_names r.metas) text.conclusion r.conclusion says.2
+  closed_conclusion = over_none text.conclusion r.conclusion conclusion
 
-  the_names : closed_names r.metas ≡ rule_names r
-  the_names = λ i. record { root = sym (ap (λ (c : SchemeContext). c.root) closed_conclusion) i; metas = r.metas; knowns = [] }
+  in_scope : (form : List Token) (j : JudgmentScheme) → ReadsOver form j → IsJudgmentScheme th (rule_names r) j
+  in_scope form j k = form_in_scope th.sig th.judgments bare.sig bare.judgments th refl refl (closed_names all) (rule_names r) bare_scope form j k.0 k.1
 
-  in_scope : (form : List Token) (j : JudgmentScheme) → ReadsOnlyAs th.sig th.judgments (closed_names r.metas) form j → IsJudgmentScheme th (rule_names r) j
-  in_scope form j k = subst (λ (n : Names). IsJudgmentScheme th n j) the_names (form_in_scope th.sig th.judgments bare.sig bare.judgments th refl refl (closed_names r.metas) bare_scope form j k)
-
-  over_none : (form : List Token) (j : JudgmentScheme) → ReadsOnlyAs th.sig th.judgments (closed_names r.metas) form j → j.context ≡ record { root = Closed; entries = [] }
-  over_none form j k = no_context_read th.sig th.judgments bare.sig bare.apart bare.judgments (closed_names r.metas) form j k
-
-  strict_in : (form : List Token) (j : JudgmentScheme) → ReadsOnlyAs th.sig th.judgments (closed_names r.metas) form j → (m : ℕ) → OccursInJudgment m j → StrictInJudgment m j
+  strict_in : (form : List Token) (j : JudgmentScheme) → ReadsOver form j → (m : ℕ) → OccursInJudgment m j → StrictInJudgment m j
   strict_in form j k m o = strict_judgment th (rule_names r) plain_names j (in_scope form j k) (over_none form j k) m o
 
   ordinary : IsAssumption r → ⊥
@@ -131,30 +153,31 @@ module _ (th : Theory) (bare : IsBareTheory th) (text : RuleText) (r : Rule) (h 
   strict_name m (inl a) = inr (
     ordinary,
     inl (any_map (OccursInJudgment m) (StrictInJudgment m) r.premises
-        (zip_right (ReadsOnlyAs th.sig th.judgments (closed_names r.metas)) (λ (j : JudgmentScheme). OccursInJudgment m j → StrictInJudgment m j) (λ form j k. strict_in form j k m) text.premises r.premises says.1) a),
+        (zip_right ReadsOver (λ (j : JudgmentScheme). OccursInJudgment m j → StrictInJudgment m j) (λ form j k. strict_in form j k m) text.premises r.premises premises) a),
   )
-  strict_name m (inr (inl a)) = inr (ordinary, inr (strict_in text.conclusion r.conclusion says.2 m a))
+  strict_name m (inr (inl a)) = inr (ordinary, inr (strict_in text.conclusion r.conclusion conclusion m a))
   strict_name m (inr (inr never)) = absurd never
+
+  stands : (m : ℕ) (d : MetaDecl) → slice_get r.metas m ≡ Some d → AnyByRecursion (OccursInJudgment m) (r.premises ++ r.conclusion ∷ [])
+  stands m d g =
+      any_at all (r.premises ++ r.conclusion ∷ []) m d says.gathered.differ (place_front r.metas says.unread m d g) (says.split.read d.name (among_at r.metas m d d.name g refl))
 
   pub good_rule : IsGoodRule th r
   good_rule = record {
     forms = record {
-      conclusion = in_scope text.conclusion r.conclusion says.2;
-      premises = zip_right (ReadsOnlyAs th.sig th.judgments (closed_names r.metas)) (IsJudgmentScheme th (rule_names r)) in_scope text.premises r.premises says.1;
-      roots = zip_right (ReadsOnlyAs th.sig th.judgments (closed_names r.metas)) (λ (p : JudgmentScheme). StandsWith (rule_root th r.conclusion.judgment) p.context.root)
+      conclusion = in_scope text.conclusion r.conclusion conclusion;
+      premises = zip_right ReadsOver (IsJudgmentScheme th (rule_names r)) in_scope text.premises r.premises premises;
+      roots = zip_right ReadsOver (λ (p : JudgmentScheme). StandsWith (rule_root th r.conclusion.judgment) p.context.root)
           (λ form p k. subst (λ (c : SchemeContext). StandsWith (rule_root th r.conclusion.judgment) c.root) (sym (over_none form p k))
-          (subst (λ (root : Root). StandsWith root Closed) (sym (over_closed th.sig th.judgments bare.sig bare.apart bare.judgments r.conclusion.judgment)) tt)) text.premises r.premises says.1;
-      entries = zip_right (ReadsOnlyAs th.sig th.judgments (closed_names r.metas)) (λ (p : JudgmentScheme). length p.context.entries ≤ 8)
-          (λ form p k. subst (λ (c : SchemeContext). length c.entries ≤ 8) (sym (over_none form p k)) (let small : 0 ≤ 8 = omega arith in small)) text.premises r.premises says.1;
+          (subst (λ (root : Root). StandsWith root Closed) (sym (over_closed th.sig th.judgments bare.sig bare.apart bare.judgments r.conclusion.judgment)) tt)) text.premises r.premises premises;
+      entries = zip_right ReadsOver (λ (p : JudgmentScheme). length p.context.entries ≤ 8)
+          (λ form p k. subst (λ (c : SchemeContext). length c.entries ≤ 8) (sym (over_none form p k)) (let small : 0 ≤ 8 = omega arith in small)) text.premises r.premises premises;
     };
     plain = plain_names;
     closed = ap (λ (c : SchemeContext). c.root) closed_conclusion;
     bare = inl (subst (λ (c : SchemeContext). IsBareName c.root c.entries) (sym closed_conclusion) tt);
     strict = numbered (StrictInRule r) r.metas 0 (λ m d g. (let same : 0 + m ≡ m = omega arith in
-        subst (StrictInRule r) (sym same)
-        (strict_name m (any_split (OccursInJudgment m) r.premises (r.conclusion ∷ [])
-        (all_used th.sig th.judgments bare.sig bare.apart bare.judgments (rule_forms text) (r.premises ++ r.conclusion ∷ []) r.metas says.0
-        (zip_append (ReadsOnlyAs th.sig th.judgments (closed_names r.metas)) text.premises (text.conclusion ∷ []) r.premises (r.conclusion ∷ []) says.1 (says.2, tt)) m d g)))));
+        subst (StrictInRule r) (sym same) (strict_name m (any_split (OccursInJudgment m) r.premises (r.conclusion ∷ []) (stands m d g)))));
   }
 
 first_unstrict : (r : Rule) (n m : ℕ) (decls : List MetaDecl) → AllNumbered (λ k decl. StrictInRule r k) n decls → IsFirstUnstrict r n decls m → ⊥

@@ -1,9 +1,8 @@
 -- The items for which tokens stand.
-use Rattle.std.proofs.Common.{◌≡◌, ◌↔◌, ◌⊎◌, ◌≤◌, ◌<◌, ◌+◌, IsTrue, Bool, true, false, ℕ, None, List, [], ◌∷◌, ◌++◌, length, map, take, drop, get_or, inl, inr, refl, ap, ◌∙◌, sym, subst, arith, append_assoc, append-nil, zero, suc, Option, Some, MatchOption}
+use Rattle.std.proofs.Common.{◌≡◌, ◌↔◌, ◌⊎◌, ◌≤◌, ◌<◌, ◌+◌, IsTrue, Bool, true, false, ℕ, None, List, [], ◌∷◌, ◌++◌, length, map, take, drop, get_or, inl, inr, refl, ap, ◌∙◌, sym, subst, arith, append_assoc, append-nil, zero, suc}
 use Rattle.std.proofs.lemmas.List.{take_more, drop_more, take-append-drop}
 use Rattle.std.specs.List.{AllZip, AllByRecursion}
 use Rattle.binding_terms.specs.declared.grammar.Cat.{Cat}
-use Rattle.binding_terms.specs.declared.grammar.CatId.{CatId}
 use Rattle.judgments.specs.Statements.{IsFreeName}
 use Rattle.judgments.proofs.ReadingLemmas.{not_variable}
 use Rattle.binding_terms.specs.Signature.{Signature}
@@ -14,14 +13,13 @@ use Rattle.sy_base.specs.Tokens.{PlainToken, is_numeral}
 use Rattle.outline_reader.specs.Plain.{PlainPortion}
 use Rattle.judgments.specs.Spellings.{IsNoSpelling}
 use Rattle.rule_schemes.specs.declared.rule.Judgment.{Judgment}
-use Rattle.user_grammar.specs.Bare.{IsNotAmbiguous}
 use Rattle.user_grammar.specs.File.{listed_in, listed}
-use Rattle.user_grammar.specs.Names.{category_names, IsAmong, IsCategoryWord}
-use Rattle.judgments.specs.Built.{IsBuiltItem, IsBuiltJudgment}
+use Rattle.user_grammar.specs.Names.{IsAmong, IsCategoryWord}
+use Rattle.judgments.specs.Built.{IsBuiltJudgment}
 use Rattle.judgments.specs.Texts.{JudgmentText, judgment_in, judgments_in}
 use Rattle.judgments.specs.Theory.{IsTerminalToken, IsItemOf}
 use Rattle.judgments.proofs.Collecting.{any_front, any_back, any_split}
-use Rattle.judgments.proofs.Zips.{zip_append, zip_split, map_append, zip_map, zip_both, zip_right}
+use Rattle.judgments.proofs.Zips.{zip_append, zip_split, map_append}
 
 -- a word that is no numeral
 pub word_terminal : (sig : Signature) (portions : List PlainPortion) (token : PlainToken) (r : Bool) → token.kind ≡ 0 → IsNoSpelling sig.cats token.text
@@ -37,21 +35,21 @@ word_terminal sig portions token r kind none numeral test = (
 
 -- the judgment of these items
 pub built_judgment : (sig : Signature) (portions : List PlainPortion) (v w : List ℕ) (form : List PlainToken) (items : List Item) → v ≡ w → length form ≤ 256
-    → AllZip (IsBuiltItem sig portions) form items
+    → AllZip (IsItemOf sig portions) form items
     → IsBuiltJudgment sig portions (record { name = w; form = form; assumes = None }) (record { name = v; ctx = None; items = items })
 built_judgment sig portions v w form items named short h = (
   record {
     named = named;
     within = short;
-    items = zip_map (IsBuiltItem sig portions) (IsItemOf sig portions) (λ t i b. b.0) form items h;
+    items = h;
     assumed = tt;
   },
-  record { no_context = refl; terminals = zip_right (IsBuiltItem sig portions) (IsNotAmbiguous (category_names sig.cats)) (λ t i b. b.1) form items h },
+  record { no_context = refl },
 )
 
-pub no_judgment : (sig : Signature) (portions : List PlainPortion) (text : JudgmentText) → ((items : List Item) → AllZip (IsBuiltItem sig portions) text.form items → ⊥)
+pub no_judgment : (sig : Signature) (portions : List PlainPortion) (text : JudgmentText) → ((items : List Item) → AllZip (IsItemOf sig portions) text.form items → ⊥)
     → (j : Judgment) → IsBuiltJudgment sig portions text j → ⊥
-no_judgment sig portions text none j h = none j.items (zip_both (IsItemOf sig portions) (IsNotAmbiguous (category_names sig.cats)) text.form j.items h.0.items h.1.terminals)
+no_judgment sig portions text none j h = none j.items h.0.items
 
 judgments_append : (ps qs : List PlainPortion) → judgments_in (ps ++ qs) ≡ judgments_in ps ++ judgments_in qs
 judgments_append [] qs = refl
@@ -81,23 +79,11 @@ module _ {X : Type 0} (f : X → PlainPortion) (R : JudgmentText → Judgment �
       none here.0 here.3
 
 -- a token that is no terminal and no spelling stands for no item
-pub no_terminal : (sig : Signature) (portions : List PlainPortion) (token : PlainToken) → IsNoSpelling sig.cats token.text → (IsTerminalToken sig portions token → ⊥)
-    → (item : Item) → IsBuiltItem sig portions token item → ⊥
-no_terminal sig portions token none other (Word text quoted) h = other (h.0).2
-no_terminal sig portions token none other (Slot c binds) h = none_spelled sig.cats c.0 token.text none (h.0).1
-no_terminal sig portions token none other (Binder c) h = h.0
-
-not_word : (sig : Signature) (portions : List PlainPortion) (token : PlainToken) (c : ℕ) → IsCategoryWord sig.cats c token.text → (token.kind ≡ 0 → ⊥) → (item : Item) → IsBuiltItem sig portions token item → ⊥
-not_word sig portions token c spelled other (Word text quoted) h = none_spelled sig.cats c token.text (subst (IsNoSpelling sig.cats) (h.0).0 h.1) spelled
-not_word sig portions token c spelled other (Slot d binds) h = other (h.0).0
-not_word sig portions token c spelled other (Binder d) h = h.0
-
--- the slot of a category whose spelling the token is
-pub slot_item : (sig : Signature) (portions : List PlainPortion) (token : PlainToken) (cat : CatId) (found : Option Item) → IsCategoryWord sig.cats cat.0 token.text
-    → MatchOption found (token.kind ≡ 0 → ⊥) (λ item. (token.kind ≡ 0) × (item ≡ Slot cat []))
-    → MatchOption found ((item : Item) → IsBuiltItem sig portions token item → ⊥) (λ item. IsBuiltItem sig portions token item)
-slot_item sig portions token cat None spelled other = not_word sig portions token cat.0 spelled other
-slot_item sig portions token cat (Some item) spelled h = subst (IsBuiltItem sig portions token) (sym h.1) ((h.0, spelled, refl), tt)
+pub no_terminal : (sig : Signature) (portions : List PlainPortion) (token : PlainToken) → (token.kind ≡ 0 → IsNoSpelling sig.cats token.text) → (IsTerminalToken sig portions token → ⊥)
+    → (item : Item) → IsItemOf sig portions token item → ⊥
+no_terminal sig portions token none other (Word text quoted) h = other h.2
+no_terminal sig portions token none other (Slot c binds) h = none_spelled sig.cats c.0 token.text (none h.0) h.1
+no_terminal sig portions token none other (Binder c) h = h
 
 spelled_none : (cats : List Cat) (w : List ℕ) → ((c : ℕ) → IsCategoryWord cats c w → ⊥) → IsNoSpelling cats w
 spelled_none [] w f = tt

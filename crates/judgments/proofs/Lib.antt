@@ -2,13 +2,16 @@ pub mod BareForms
 pub mod Collecting
 pub mod FileStatements
 pub mod GoodRules
+pub mod KeptNames
 pub mod ItemLemmas
 pub mod NamedApart
 pub mod Occurring
 pub mod OneOrder
 pub mod OneReading
+pub mod OneRule
 pub mod OneStatement
 pub mod ReadingLemmas
+pub mod Reordered
 pub mod RuleAnswers
 pub mod RuleLemmas
 pub mod Spelling

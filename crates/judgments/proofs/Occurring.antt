@@ -27,7 +27,7 @@ use Rattle.judgments.proofs.ReadingLemmas.{all_at, not_variable, bare_brackets, 
 abbrev pub NumberStands : List MetaDecl → List Token → ℕ → Type 0
 NumberStands metas ts m = (decl : MetaDecl) × (slice_get metas m ≡ Some decl) × StandsIn decl.name ts
 
-module _ (sig : Signature) (metas : List MetaDecl) (names : Names) (bare : IsBareSignature sig) (plain : AllByRecursion (λ (m : MetaDecl). m.params ≡ []) metas) (are : names.metas ≡ metas) where
+module _ (sig : Signature) (metas : List MetaDecl) (bare : IsBareSignature sig) (plain : AllByRecursion (λ (m : MetaDecl). m.params ≡ []) metas) where
   in_front : (ts us : List Token) (m : ℕ) → NumberStands metas ts m → NumberStands metas (ts ++ us) m
   in_front ts us m h = (h.0, h.1, any_front (λ t. t ≡ word (h.0).name) ts us h.2)
 
@@ -43,7 +43,7 @@ module _ (sig : Signature) (metas : List MetaDecl) (names : Names) (bare : IsBar
     term_numbers (group {inner = inner} e r) v m o =
         subst (λ ts. NumberStands metas ts m) (sym e) (in_back (punctuation 40 ∷ []) (inner ++ punctuation 41 ∷ []) m (in_front inner (punctuation 41 ∷ []) m (term_numbers r v m o)))
     term_numbers (metavariable {rest = rest} {m = n} {decl = decl} {vs = vs} e g c b) v m o =
-        let same : n ≡ m = bare_place vs m n (bare_brackets sig metas names bare plain are b (no_parameters sig metas names bare plain are n decl g)).1 o in
+        let same : n ≡ m = bare_place vs m n (bare_brackets sig metas bare plain b (no_parameters sig metas bare plain n decl g)).1 o in
         (decl, subst (λ k. slice_get metas k ≡ Some decl) same g, subst (StandsIn decl.name) (sym e) (inl refl))
     term_numbers (variable {c = c} {w = w} {s = s} e h) v m o = absurd (subst (λ vs. Means 0 vs w c s) v h)
     term_numbers (production {p = p} {prod = prod} g c r) v m o =
@@ -67,13 +67,17 @@ module _ (sig : Signature) (metas : List MetaDecl) (names : Names) (bare : IsBar
   form_numbers (form_slot {first = first} {rest = rest} other e some t r) v c m (inl o) = subst (λ ts. NumberStands metas ts m) (sym e) (in_front first rest m (term_numbers t v m o))
   form_numbers (form_slot {first = first} {rest = rest} other e some t r) v c m (inr o) = subst (λ ts. NumberStands metas ts m) (sym e) (in_back first rest m (form_numbers r v c m o))
 
-module _ (sig : Signature) (js : List Judgment) (bare : IsBareSignature sig) (closed : AllByRecursion (IsBareJudgment sig.cats) js) (names : Names) (plain : AreBareNames names) where
+module _ (sig : Signature) (js : List Judgment) (bare : IsBareSignature sig) (closed : AllByRecursion IsBareJudgment js) (names : Names) (plain : AreBareNames names) where
   judgment_numbers : {scope : ReadingScope} {ts : List Token} {j : JudgmentScheme} {ks : List KnownVariable} → ReadsJudgment sig js scope names.metas ts j ks → scope.names.knowns ≡ []
       → (m : ℕ) → OccursInJudgment m j → NumberStands names.metas ts m
   judgment_numbers (without_context g c r) kn m (inl o) = absurd o
-  judgment_numbers (without_context g c r) kn m (inr o) = form_numbers sig names.metas names bare plain.parameters refl r (ap (known_words sig 0) kn) refl m o
+  judgment_numbers (without_context g c r) kn m (inr o) = form_numbers sig names.metas bare plain.parameters r (ap (known_words sig 0) kn) refl m o
   judgment_numbers (with_context {k = k} {j = j} {id = id} g c ctx r) kn m o =
-      absurd (let never : None ≡ Some id = sym (all_at (IsBareJudgment sig.cats) js k j closed g).no_context ∙ c in cc)
+      absurd (let never : None ≡ Some id = sym (all_at IsBareJudgment js k j closed g).no_context ∙ c in cc)
+
+  -- what stands in the judgment stands in its form
+  pub judgment_stands : (form : List Token) (j : JudgmentScheme) → ReadsOnlyAs sig js names form j → (m : ℕ) → OccursInJudgment m j → NumberStands names.metas form m
+  judgment_stands form j h m o = judgment_numbers (reads_as sig js bare closed names form j h) plain.knowns m o
 
   -- what stands in one of the judgments stands in one of the forms
   pub numbers_stand : (forms : List (List Token)) (zs : List JudgmentScheme) → AllZip (ReadsOnlyAs sig js names) forms zs → (m : ℕ) → AnyByRecursion (OccursInJudgment m) zs
@@ -82,6 +86,6 @@ module _ (sig : Signature) (js : List Judgment) (bare : IsBareSignature sig) (cl
   numbers_stand [] (z ∷ zs) h m o = absurd h
   numbers_stand (form ∷ forms) [] h m o = absurd h
   numbers_stand (form ∷ forms) (z ∷ zs) h m (inl o) =
-      let k = judgment_numbers (reads_as sig js bare closed names form z h.0) plain.knowns m o in (k.0, k.1, inl k.2)
+      let k = judgment_stands form z h.0 m o in (k.0, k.1, inl k.2)
   numbers_stand (form ∷ forms) (z ∷ zs) h m (inr o) =
       let k = numbers_stand forms zs h.1 m o in (k.0, k.1, inr k.2)

@@ -25,16 +25,16 @@ before_once a b (t ∷ ts) apart (inr h) (inl k) = h.0 k
 before_once a b (t ∷ ts) apart (inr h) (inr k) = before_once a b ts apart h.1 k.1
 
 -- the first name is before each later one
-first_before : (ts : List Token) (m : MetaDecl) (metas : List MetaDecl) (w : List ℕ) → AreInOrder ts (m ∷ metas) → IsAmong w metas → StandsBefore m.name w ts
+pub first_before : (ts : List Token) (m : MetaDecl) (metas : List MetaDecl) (w : List ℕ) → AreInOrder ts (m ∷ metas) → IsAmong w metas → StandsBefore m.name w ts
 first_before ts m [] w h a = absurd a
 first_before ts m (n ∷ metas) w h (inl e) = subst (λ v. StandsBefore m.name v ts) e h.1
 first_before ts m (n ∷ metas) w h (inr a) = before_trans m.name n.name w ts h.1 (first_before ts n metas w h.2 a)
 
-rest_in_order : (ts : List Token) (m : MetaDecl) (metas : List MetaDecl) → AreInOrder ts (m ∷ metas) → AreInOrder ts metas
+pub rest_in_order : (ts : List Token) (m : MetaDecl) (metas : List MetaDecl) → AreInOrder ts (m ∷ metas) → AreInOrder ts metas
 rest_in_order ts m [] h = tt
 rest_in_order ts m (n ∷ metas) h = h.2
 
-not_again : (w : List ℕ) (metas : List MetaDecl) → AllByRecursion (λ v. w ≢ v) (map (λ (m : MetaDecl). m.name) metas) → IsAmong w metas → ⊥
+pub not_again : (w : List ℕ) (metas : List MetaDecl) → AllByRecursion (λ v. w ≢ v) (map (λ (m : MetaDecl). m.name) metas) → IsAmong w metas → ⊥
 not_again w [] h a = a
 not_again w (m ∷ metas) h (inl e) = h.0 (sym e)
 not_again w (m ∷ metas) h (inr a) = not_again w metas h.1 a
@@ -75,13 +75,13 @@ same_names ts (x ∷ xs) (y ∷ ys) dx dy ox oy there back =
         (first_before ts y ys x.name oy (later_y apart (there x.name (inl refl)))))
 
 module _ (sig : Signature) (apart : AreSpelledApart sig) (ts : List Token) where
-  same_decl : (x y : MetaDecl) → IsCollected sig.cats ts x → IsCollected sig.cats ts y → x.name ≡ y.name → x ≡ y
+  pub same_decl : (x y : MetaDecl) → IsCollected sig.cats ts x → IsCollected sig.cats ts y → x.name ≡ y.name → x ≡ y
   same_decl x y h k e =
       let number : x.cat.0 ≡ y.cat.0 = apart x.cat.0 y.cat.0 y.name (subst (IsCategoryWord sig.cats x.cat.0) e h.cat) k.cat in
       let params : x.params ≡ y.params = h.params ∙ sym k.params in
       λ i. record { name = e i; cat = record { 0 = number i }; params = params i }
 
-  same_decls : (xs ys : List MetaDecl) → AllByRecursion (IsCollected sig.cats ts) xs → AllByRecursion (IsCollected sig.cats ts) ys
+  pub same_decls : (xs ys : List MetaDecl) → AllByRecursion (IsCollected sig.cats ts) xs → AllByRecursion (IsCollected sig.cats ts) ys
       → map (λ (m : MetaDecl). m.name) xs ≡ map (λ (m : MetaDecl). m.name) ys → xs ≡ ys
   same_decls [] [] h k e = refl
   same_decls [] (y ∷ ys) h k e = (let never : [] ≡ y.name ∷ map (λ (m : MetaDecl). m.name) ys = e in cc)

@@ -24,10 +24,11 @@ use Rattle.scheme_terms.specs.declared.scheme.KnownDecl.{KnownDecl}
 use Rattle.notation_parser.specs.Answer.{IsAnswer}
 use Rattle.notation_parser.specs.Plain.{IsPlain}
 use Rattle.notation_parser.specs.View as parsed
+use Rattle.term_reader.specs.View as terms
 use Rattle.judgments.specs.Written.{settled, ReadsOnlyAs}
 use Rattle.judgments.proofs.ReadingLemmas.{all_at}
 
-same_kind : (k : Kind) → lexed.kind_number k ≡ parsed.kind_number k
+same_kind : (k : Kind) → lexed.kind_number k ≡ terms.kind_number k
 same_kind kinds.Word = refl
 same_kind kinds.Symbol = refl
 same_kind kinds.Punct = refl
@@ -35,11 +36,11 @@ same_kind kinds.Bar = refl
 same_kind kinds.Quoted = refl
 
 -- the readers of forms see tokens as the lexer does
-pub same_tokens : (ts : List of_token.Token) → map parsed.token ts ≡ map kind_and_text ts
+pub same_tokens : (ts : List of_token.Token) → map terms.token ts ≡ map kind_and_text ts
 same_tokens [] = refl
 same_tokens (t ∷ ts) =
     let rest = same_tokens ts in
-    let first : parsed.token t ≡ kind_and_text t = ap (λ n. (n, t.text.now)) (sym (same_kind t.kind)) in
+    let first : terms.token t ≡ kind_and_text t = ap (λ n. (n, t.text.now)) (sym (same_kind t.kind)) in
     cc
 
 module _ (sig : Signature) (js : List Judgment) (names : Names) (ts : List Token) where
@@ -83,20 +84,20 @@ settled_scope : (scope : ReadingScope) → scope.vars ≡ [] → scope.fresh ≡
 settled_scope scope v f = λ i. record { names = scope.names; vars = v i; fresh = f i }
 
 module _ (sig : Signature) (js : List Judgment) (scope : ReadingScope) (ts : List of_token.Token) (plain : IsPlain sig js scope want_judgment) where
-  settled_answer : (r : Reading) → IsAnswer sig js scope want_judgment (map parsed.token ts) r → IsAnswer sig js (settled scope.names) want_judgment (map kind_and_text ts) r
+  settled_answer : (r : Reading) → IsAnswer sig js scope want_judgment (map terms.token ts) r → IsAnswer sig js (settled scope.names) want_judgment (map kind_and_text ts) r
   settled_answer r h =
       subst (λ us. IsAnswer sig js (settled scope.names) want_judgment us r) (same_tokens ts)
-      (subst (λ (s : ReadingScope). IsAnswer sig js s want_judgment (map parsed.token ts) r) (settled_scope scope plain.vars plain.fresh) h)
+      (subst (λ (s : ReadingScope). IsAnswer sig js s want_judgment (map terms.token ts) r) (settled_scope scope plain.vars plain.fresh) h)
 
-  pub one_answer : (w : of_written.Written) (ms : List MetaDecl) (ks : List KnownDecl) (found : Option JScheme) → IsAnswer sig js scope want_judgment (map parsed.token ts) (One w ms ks)
+  pub one_answer : (w : of_written.Written) (ms : List MetaDecl) (ks : List KnownDecl) (found : Option JScheme) → IsAnswer sig js scope want_judgment (map terms.token ts) (One w ms ks)
       → MatchOption found ((j : JudgmentScheme) → parsed.written w ≡ a_judgment j → ⊥) (λ j. parsed.written w ≡ a_judgment (judgment_scheme j))
       → MatchOption found ((j : JudgmentScheme) → ReadsOnlyAs sig js scope.names (map kind_and_text ts) j → ⊥) (λ j. ReadsOnlyAs sig js scope.names (map kind_and_text ts) (judgment_scheme j))
   one_answer w ms ks None h none = let a = settled_answer (One w ms ks) h in other_read sig js scope.names (map kind_and_text ts) _ a.1 none
   one_answer w ms ks (Some j) h e =
       let a = settled_answer (One w ms ks) h in one_read sig js scope.names (map kind_and_text ts) _ (judgment_scheme j) a.0 plain.judgments a.1 e
 
-  pub no_answer : IsAnswer sig js scope want_judgment (map parsed.token ts) NoReading → (j : JudgmentScheme) → ReadsOnlyAs sig js scope.names (map kind_and_text ts) j → ⊥
+  pub no_answer : IsAnswer sig js scope want_judgment (map terms.token ts) NoReading → (j : JudgmentScheme) → ReadsOnlyAs sig js scope.names (map kind_and_text ts) j → ⊥
   no_answer h = none_read sig js scope.names (map kind_and_text ts) (settled_answer NoReading h).1
 
-  pub two_answers : (a b : of_said.Said) → IsAnswer sig js scope want_judgment (map parsed.token ts) (Ambiguous a b) → (j : JudgmentScheme) → ReadsOnlyAs sig js scope.names (map kind_and_text ts) j → ⊥
+  pub two_answers : (a b : of_said.Said) → IsAnswer sig js scope want_judgment (map terms.token ts) (Ambiguous a b) → (j : JudgmentScheme) → ReadsOnlyAs sig js scope.names (map kind_and_text ts) j → ⊥
   two_answers a b h = two_read sig js scope.names (map kind_and_text ts) _ _ (settled_answer (Ambiguous a b) h).1

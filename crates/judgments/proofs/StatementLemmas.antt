@@ -6,11 +6,10 @@ use Rattle.binding_terms.specs.Signature.{Signature}
 use Rattle.scheme_terms.specs.Forms.{Names}
 use Rattle.scheme_terms.specs.SchemeScope.{AreDifferentNames}
 use Rattle.scheme_terms.specs.declared.scheme.MetaDecl.{MetaDecl}
-use Rattle.rule_schemes.specs.NewNames.{AreInOrder, StandsBefore}
 use Rattle.rule_schemes.specs.Reading.{Token}
 use Rattle.rule_schemes.specs.Rules.{JudgmentScheme}
 use Rattle.rule_schemes.specs.Statement.{StatementInput, given, syntax_input, OccursInJudgment, OccursInInput}
-use Rattle.judgments.specs.Collected.{StandsIn, IsAmong}
+use Rattle.judgments.specs.Collected.{IsAmong}
 use Rattle.judgments.specs.Views.{IsForDerivation}
 use Rattle.judgments.specs.Written.{WrittenInput, for_derivation, for_term, input_tokens, term_words, IsInputOf, ReadsOnlyAs}
 use Rattle.judgments.proofs.WordsOfForms.{joined}
@@ -104,47 +103,6 @@ different_front (x ∷ xs) ys h = (front xs h.0, different_front xs ys h.1)
     front [] h = tt
     front (m ∷ ms) h = (h.0, front ms h.1)
 
--- orders over tokens and over more tokens
-before_front : (a b : List ℕ) (ts us : List Token) → StandsBefore a b ts → StandsBefore a b (ts ++ us)
-before_front a b [] us h = absurd h
-before_front a b (t ∷ ts) us (inl h) = inl h
-before_front a b (t ∷ ts) us (inr h) = inr (h.0, before_front a b ts us h.1)
-
-before_border : (a b : List ℕ) (ts us : List Token) → StandsIn a ts → (StandsIn b ts → ⊥) → StandsBefore a b (ts ++ us)
-before_border a b [] us h none = absurd h
-before_border a b (t ∷ ts) us (inl h) none = inl h
-before_border a b (t ∷ ts) us (inr h) none = inr (λ e. none (inl e), before_border a b ts us h (λ k. none (inr k)))
-
-before_later : (a b : List ℕ) (ts us : List Token) → (StandsIn b ts → ⊥) → StandsBefore a b us → StandsBefore a b (ts ++ us)
-before_later a b [] us none h = h
-before_later a b (t ∷ ts) us none h = inr (λ e. none (inl e), before_later a b ts us (λ k. none (inr k)) h)
-
-before_rest : (a b : List ℕ) (ts us : List Token) → (StandsIn a ts → ⊥) → StandsBefore a b (ts ++ us) → StandsBefore a b us
-before_rest a b [] us none h = h
-before_rest a b (t ∷ ts) us none (inl h) = absurd (none (inl h))
-before_rest a b (t ∷ ts) us none (inr h) = before_rest a b ts us (λ k. none (inr k)) h.1
-
-order_later : (ts us : List Token) (ys : List MetaDecl) → AllByRecursion (λ (m : MetaDecl). StandsIn m.name ts → ⊥) ys → AreInOrder us ys → AreInOrder (ts ++ us) ys
-order_later ts us [] none h = tt
-order_later ts us (y ∷ []) none h = tt
-order_later ts us (y ∷ (z ∷ ys)) none h = (h.0, before_later y.name z.name ts us none.1.0 h.1, order_later ts us (z ∷ ys) none.1 h.2)
-
-pub order_rest : (ts us : List Token) (ys : List MetaDecl) → AllByRecursion (λ (m : MetaDecl). StandsIn m.name ts → ⊥) ys → AreInOrder (ts ++ us) ys → AreInOrder us ys
-order_rest ts us [] none h = tt
-order_rest ts us (y ∷ []) none h = tt
-order_rest ts us (y ∷ (z ∷ ys)) none h = (h.0, before_rest y.name z.name ts us none.0 h.1, order_rest ts us (z ∷ ys) none.1 h.2)
-
-pub order_tail : (ts : List Token) (xs ys : List MetaDecl) → AreInOrder ts (xs ++ ys) → AreInOrder ts ys
-order_tail ts [] ys h = h
-order_tail ts (x ∷ []) [] h = tt
-order_tail ts (x ∷ []) (y ∷ ys) h = h.2
-order_tail ts (x ∷ (z ∷ xs)) ys h = order_tail ts (z ∷ xs) ys h.2
-
--- those of the front first, and then those that do not stand there
-pub order_both : (ts us : List Token) (xs ys : List MetaDecl) → AreInOrder ts xs → AllByRecursion (λ (m : MetaDecl). StandsIn m.name ts) xs → AllByRecursion (λ (m : MetaDecl). StandsIn m.name ts → ⊥) ys
-    → AreInOrder us ys → AreInOrder (ts ++ us) (xs ++ ys)
-order_both ts us [] ys h stand none k = order_later ts us ys none k
-order_both ts us (x ∷ []) [] h stand none k = tt
-order_both ts us (x ∷ []) (y ∷ ys) h stand none k =
-    (λ e. none.0 (subst (λ v. StandsIn v ts) e stand.0), before_border x.name y.name ts us stand.0 none.0, order_later ts us (y ∷ ys) none k)
-order_both ts us (x ∷ (z ∷ xs)) ys h stand none k = (h.0, before_front x.name z.name ts us h.1, order_both ts us (z ∷ xs) ys h.2 stand.1 none k)
+pub different_back : (xs ys : List MetaDecl) → AreDifferentNames (map (λ (m : MetaDecl). m.name) (xs ++ ys)) → AreDifferentNames (map (λ (m : MetaDecl). m.name) ys)
+different_back [] ys h = h
+different_back (x ∷ xs) ys h = different_back xs ys h.1

@@ -21,7 +21,7 @@ use Rattle.judgments.specs.Built.{IsBuiltJudgment, HasRulesOf}
 use Rattle.judgments.specs.Spellings.{AreSpelledApart}
 use Rattle.judgments.specs.Texts.{JudgmentText, RuleText, as_read, judgments_in, rule_in, rules_in, block_after}
 use Rattle.judgments.specs.Theory.{IsItemOf, IsJudgmentOf, IsBlockRule, IsTheoryOf, AreNamedApart, a_judgment, a_rule}
-use Rattle.judgments.proofs.RuleLemmas.{one_rule}
+use Rattle.judgments.proofs.OneRule.{one_rule}
 use Rattle.judgments.proofs.Spelling.{none_spelled}
 use Rattle.judgments.proofs.Zips.{zip_append, zip_split, zip_unique, zip_right, zip_both, zip_map, map_append}
 use Rattle.user_grammar.specs.Names.{IsCategoryWord}
@@ -80,11 +80,10 @@ added_twice th mid more texts others h k =
 
 pub bare_more : (th more : Theory) (texts : List RuleText) → IsBareTheory th → HasRulesOf th texts more → IsBareTheory more
 bare_more th more texts bare h =
-    let cats : AllByRecursion (IsBareJudgment more.sig.cats) th.judgments = subst (λ (s : Signature). AllByRecursion (IsBareJudgment s.cats) th.judgments) (sym h.sig) bare.judgments in
     record {
       sig = subst IsBareSignature (sym h.sig) bare.sig;
       apart = subst AreSpelledApart (sym h.sig) bare.apart;
-      judgments = subst (AllByRecursion (IsBareJudgment more.sig.cats)) (sym h.judgments) cats;
+      judgments = subst (AllByRecursion IsBareJudgment) (sym h.judgments) bare.judgments;
     }
 
 -- the number of judgments after portions
@@ -202,7 +201,7 @@ module _ (sig : Signature) (apart : AreSpelledApart sig) (portions : List PlainP
 -- the theories of portions over one signature that are bare
 module _ (portions : List PlainPortion) where
   pub built_judgments : (th : Theory) → IsTheoryOf portions th → IsBareTheory th → AllZip (IsBuiltJudgment th.sig portions) (judgments_in portions) th.judgments
-  built_judgments th h bare = zip_both (IsJudgmentOf th.sig portions) (IsBareJudgment th.sig.cats) (judgments_in portions) th.judgments h.judgments bare.judgments
+  built_judgments th h bare = zip_both (IsJudgmentOf th.sig portions) IsBareJudgment (judgments_in portions) th.judgments h.judgments bare.judgments
 
   pub same_judgments : (th other : Theory) → th.sig ≡ other.sig → IsTheoryOf portions th → IsBareTheory th → IsBareTheory other
       → AllZip (IsBuiltJudgment other.sig portions) (judgments_in portions) other.judgments → th.judgments ≡ other.judgments
@@ -233,7 +232,7 @@ module _ (sig : Signature) (portions : List PlainPortion) (bare : IsBareSignatur
   start_bare = record {
     sig = bare;
     apart = apart;
-    judgments = zip_right (IsBuiltJudgment sig portions) (IsBareJudgment sig.cats) (λ t j b. b.1) (judgments_in portions) js built;
+    judgments = zip_right (IsBuiltJudgment sig portions) IsBareJudgment (λ t j b. b.1) (judgments_in portions) js built;
   }
 
   pub all_fit : AllByRecursion (JudgmentFits sig) js

@@ -2,29 +2,22 @@
 use Rattle.std.specs.Prelude.{◌≡◌, ℕ, None, List, [], ◌++◌}
 use Rattle.std.specs.List.{AllZip}
 use Rattle.binding_terms.specs.Signature.{Signature}
-use Rattle.binding_terms.specs.declared.grammar.Item.{Item}
-use Rattle.sy_base.specs.Tokens.{PlainToken}
 use Rattle.outline_reader.specs.Plain.{PlainPortion}
 use Rattle.scheme_terms.specs.declared.scheme.Root.TheVariants.{Closed}
 use Rattle.rule_schemes.specs.Plain.{HasPlainNames}
 use Rattle.rule_schemes.specs.Refused.{AllStrict}
 use Rattle.rule_schemes.specs.Rules.{Rule, Theory, HasForms, HasGoodConclusion}
 use Rattle.rule_schemes.specs.declared.rule.Judgment.{Judgment}
-use Rattle.user_grammar.specs.Bare.{IsNotAmbiguous}
-use Rattle.user_grammar.specs.Names.{category_names}
 use Rattle.judgments.specs.Bare.{IsBareJudgment, IsBareStatement}
 use Rattle.rule_schemes.specs.Reading.{Token}
 use Rattle.rule_schemes.specs.Statement.{Theorem}
 use Rattle.judgments.specs.Statements.{IsTheoremOf}
 use Rattle.judgments.specs.Written.{WrittenInput}
 use Rattle.judgments.specs.Texts.{JudgmentText, RuleText, TheoremText}
-use Rattle.judgments.specs.Theory.{IsItemOf, IsJudgmentOf, IsBlockRule}
-
-abbrev pub IsBuiltItem : Signature → List PlainPortion → PlainToken → Item → Type 0
-IsBuiltItem sig portions token item = IsItemOf sig portions token item × IsNotAmbiguous (category_names sig.cats) item
+use Rattle.judgments.specs.Theory.{IsJudgmentOf, IsBlockRule}
 
 abbrev pub IsBuiltJudgment : Signature → List PlainPortion → JudgmentText → Judgment → Type 0
-IsBuiltJudgment sig portions text j = IsJudgmentOf sig portions text j × IsBareJudgment sig.cats j
+IsBuiltJudgment sig portions text j = IsJudgmentOf sig portions text j × IsBareJudgment j
 
 -- what is asked of a rule before it is added, and that nothing speaks against it
 pub record IsGoodRule (th : Theory) (r : Rule) : Type 0 where

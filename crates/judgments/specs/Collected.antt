@@ -29,6 +29,12 @@ pub record AreCollected (cats : List Cat) (tokens : List Token) (metas : List Me
   pub differ : AreDifferentNames (map (λ decl. decl.name) metas)
   pub in_order : AreInOrder tokens metas
 
+-- the same in any order
+pub record AreGathered (cats : List Cat) (tokens : List Token) (metas : List MetaDecl) : Type 0 where
+  pub each : AllByRecursion (IsCollected cats tokens) metas
+  pub all : (w : List ℕ) (c : ℕ) → StandsIn w tokens → IsCategoryWord cats c w → IsAmong w metas
+  pub differ : AreDifferentNames (map (λ decl. decl.name) metas)
+
 -- the token brings no new name
 pub record IsKept (cats : List Cat) (before : List MetaDecl) (t : Token) (after : List MetaDecl) : Type 0 where
   pub same : after ≡ before

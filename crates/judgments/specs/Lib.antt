@@ -4,6 +4,7 @@ pub mod Collected
 pub mod Laws
 pub mod Named
 pub mod Spellings
+pub mod Standing
 pub mod Statements
 pub mod Texts
 pub mod Theory

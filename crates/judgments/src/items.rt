@@ -11,7 +11,6 @@ ghost use Rattle.judgments.specs.Spellings.{IsNoSpelling};
 ghost use Rattle.user_grammar.specs.File.{listed_in, listed};
 ghost use Rattle.user_grammar.specs.Names.{IsAmong};
 ghost use Rattle.judgments.specs.Theory.{IsTerminalToken, IsItemOf};
-ghost use Rattle.judgments.specs.Built.{IsBuiltItem};
 
 use crate::words::{same_bytes, spelled, text_of};
 use binding_terms::{CatId, Item, NoMemory, Sig};
@@ -65,9 +64,9 @@ fn is_square(text: &[u8]) -> bool
     same_bytes(text, b"[".as_slice()) || same_bytes(text, b"]".as_slice())
 }
 
-/// Whether the token, which is no spelling of a category, is a terminal of a judgment's form.
+/// Whether the token, which is no word that is a spelling of a category, is a terminal of a judgment's form.
 fn is_terminal(sig: &Sig, outline: &Outline<'_>, token: &Token<'_>) -> bool
-    requires { IsNoSpelling sig.now.cats token.now.text.now }
+    requires { kind_number token.now.kind ≡ 0 → IsNoSpelling sig.now.cats token.now.text.now }
     ensures { IsTrue result ↔ IsTerminalToken sig.now (outlined outline.now) (token_view token.now) }
 {
     let text = token.text.as_bytes();
@@ -104,17 +103,17 @@ fn is_quoted(kind: Kind) -> bool
     }
 }
 
-/// The terminal, where the token, which is no spelling of a category, is one.
+/// The terminal, where the token, which is no word that is a spelling of a category, is one.
 fn terminal_of(
     alloc: Global,
     sig: &Sig,
     outline: &Outline<'_>,
     token: &Token<'_>,
 ) -> Result<Option<Item>, NoMemory>
-    requires { IsNoSpelling sig.now.cats token.now.text.now }
+    requires { kind_number token.now.kind ≡ 0 → IsNoSpelling sig.now.cats token.now.text.now }
     ensures { IfOk result (λ found. MatchOption found
-        ((item : Item) → IsBuiltItem sig.now (outlined outline.now) (token_view token.now) item → ⊥)
-        (λ item. IsBuiltItem sig.now (outlined outline.now) (token_view token.now) item)) }
+        ((item : Item) → IsItemOf sig.now (outlined outline.now) (token_view token.now) item → ⊥)
+        (λ item. IsItemOf sig.now (outlined outline.now) (token_view token.now) item)) }
 {
     if !is_terminal(sig, outline, token) {
         return Ok(None);
@@ -126,22 +125,17 @@ fn terminal_of(
     }))
 }
 
-/// The slot of the category, where the token is a word.
-fn slot_of(alloc: Global, token: &Token<'_>, cat: CatId) -> Option<Item>
-    ensures { MatchOption result ((kind_number token.now.kind ≡ 0) → ⊥)
-        (λ item. (kind_number token.now.kind ≡ 0) × (item ≡ Slot cat [])) }
+/// The slot of the category, without brackets.
+fn slot(alloc: Global, cat: CatId) -> Item
+    ensures { result ≡ Slot cat [] }
 {
-    if is_word(token.kind) {
-        Some(Item::Slot {
-            cat,
-            binds: Items::new(alloc),
-        })
-    } else {
-        None
+    Item::Slot {
+        cat,
+        binds: Items::new(alloc),
     }
 }
 
-/// The item for which the token stands. A quoted token that is spelled as a category is not built yet.
+/// The item for which the token stands: a slot for a word that is a spelling of a category, else a terminal.
 pub fn item_of(
     alloc: Global,
     sig: &Sig,
@@ -149,11 +143,14 @@ pub fn item_of(
     token: &Token<'_>,
 ) -> Result<Option<Item>, NoMemory>
     ensures { IfOk result (λ found. MatchOption found
-        ((item : Item) → IsBuiltItem sig.now (outlined outline.now) (token_view token.now) item → ⊥)
-        (λ item. IsBuiltItem sig.now (outlined outline.now) (token_view token.now) item)) }
+        ((item : Item) → IsItemOf sig.now (outlined outline.now) (token_view token.now) item → ⊥)
+        (λ item. IsItemOf sig.now (outlined outline.now) (token_view token.now) item)) }
 {
+    if !is_word(token.kind) {
+        return terminal_of(alloc, sig, outline, token);
+    }
     match spelled(sig.cats().as_slice(), token.text.as_bytes())? {
-        Some(cat) => Ok(slot_of(alloc, token, cat)),
+        Some(cat) => Ok(Some(slot(alloc, cat))),
         None => terminal_of(alloc, sig, outline, token),
     }
 }
@@ -166,8 +163,8 @@ pub fn items_of(
     form: &[Token<'_>],
 ) -> Result<Option<Items<Item>>, NoMemory>
     ensures { IfOk result (λ found. MatchOption found
-        ((items : List Item) → AllZip (IsBuiltItem sig.now (outlined outline.now)) (map token_view form.now) items → ⊥)
-        (λ items. AllZip (IsBuiltItem sig.now (outlined outline.now)) (map token_view form.now) items)) }
+        ((items : List Item) → AllZip (IsItemOf sig.now (outlined outline.now)) (map token_view form.now) items → ⊥)
+        (λ items. AllZip (IsItemOf sig.now (outlined outline.now)) (map token_view form.now) items)) }
 {
     let mut all = Items::new(alloc);
     for token in form {

@@ -1,13 +1,8 @@
-ghost use Rattle.judgments.specs.Laws.{ReadingsAreInScope, SpellingsAreNames, SignaturesSpellApart};
+ghost use Rattle.judgments.specs.Laws.{ReadingsAreInScope, SignaturesSpellApart};
 
 /// Over a bare theory the one reading of a form is a judgment over its names.
 pub fn readings_are_in_scope()
     ensures { ReadingsAreInScope }
-{}
-
-/// Over a bare theory a word of a form that is a spelling of a category reads as a metavariable.
-pub fn spellings_are_names()
-    ensures { SpellingsAreNames }
 {}
 
 /// Over the signature of a file no word is a spelling of two categories.

@@ -9,10 +9,11 @@ mod names;
 mod naming;
 mod readings;
 mod rules;
+mod standing;
 mod statements;
 mod system;
 mod words;
 
-pub use laws::{readings_are_in_scope, signatures_spell_apart, spellings_are_names};
+pub use laws::{readings_are_in_scope, signatures_spell_apart};
 pub use statements::statements_of;
 pub use system::system_of;

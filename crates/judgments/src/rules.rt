@@ -2,6 +2,7 @@
 ghost use Rattle.std.specs.Prelude.{◌≡◌, ◌++◌, ◌∷◌, [], suc, IsTrue, ◌↔◌, IfOk, OnOk, MatchOption, List, map, flat_map};
 ghost use Rattle.std.specs.List.{AllZip};
 ghost use Rattle.scheme_terms.specs.View.{names};
+ghost use Rattle.scheme_terms.specs.declared.scheme.Root.TheVariants.{Closed};
 ghost use Rattle.proof_lexer.specs.View.{kind_and_text};
 ghost use Rattle.rule_schemes.specs.Rules.{JudgmentScheme, Rule};
 ghost use Rattle.rule_schemes.specs.Said.{want_judgment};
@@ -12,11 +13,13 @@ ghost use Rattle.notation_parser.specs.View.{reading_scope};
 ghost use Rattle.judgments.specs.Bare.{IsBareTheory};
 ghost use Rattle.judgments.specs.Built.{IsGoodRule};
 ghost use Rattle.judgments.specs.Collected.{AreCollected};
+ghost use Rattle.judgments.specs.Standing.{AreReadOf, AreUnreadOf};
 ghost use Rattle.judgments.specs.Theory.{IsBlockRule};
-ghost use Rattle.judgments.specs.Written.{ReadsOnlyAs};
+ghost use Rattle.judgments.specs.Written.{settled, ReadsOnlyAs};
 
 use crate::names::{take_all_names, take_names};
 use crate::readings::{metas_of, read_form, read_forms, scope_of};
+use crate::standing::{read_of, unread_of, with_more};
 use crate::words::text_of;
 use binding_terms::{NoMemory, Sig};
 use outline_reader::{Form, Name};
@@ -76,16 +79,16 @@ fn forms_of(
     }
 }
 
-/// The rule of this name with these forms.
+/// The rule of this name with these metavariables and forms.
 fn made(
     alloc: Global,
     name: Name<'_>,
-    scope: ReadScope,
+    metas: Items<MetaDecl>,
     forms: Forms,
 ) -> Result<RuleScheme, NoMemory>
     ensures { IfOk result (λ r. r ≡ record {
       name = name.now.text.now;
-      metas = scope.scope.metas;
+      metas = metas;
       premises = forms.premises;
       conclusion = forms.conclusion;
     }) }
@@ -97,10 +100,67 @@ fn made(
     } = forms;
     Ok(RuleScheme {
         name,
-        metas: metas_of(scope),
+        metas,
         premises,
         conclusion,
     })
+}
+
+/// The metavariables of a rule that stand in its readings, and those that stand in none.
+#[derive(Drop)]
+struct Sorted {
+    used: Items<MetaDecl>,
+    unread: Items<MetaDecl>,
+}
+
+/// The judgments of a rule, the premises first.
+fn listed(forms: Forms) -> Result<Items<JScheme>, NoMemory>
+    ensures { IfOk result (λ all. all ≡ forms.premises ++ forms.conclusion ∷ []) }
+{
+    let Forms {
+        mut premises,
+        conclusion,
+    } = forms;
+    premises.push(conclusion)?;
+    Ok(premises)
+}
+
+/// The metavariables over which the forms were read, sorted by whether they stand in them.
+fn sort_names(alloc: Global, metas: &[MetaDecl], forms: Forms) -> Result<Sorted, NoMemory>
+    ensures used { IfOk result (λ s. AreReadOf metas.now (map judgment_scheme forms.premises ++ judgment_scheme forms.conclusion ∷ []) metas.now s.used) }
+    ensures unread { IfOk result (λ s. AreUnreadOf metas.now (map judgment_scheme forms.premises ++ judgment_scheme forms.conclusion ∷ []) metas.now s.unread) }
+{
+    let forms = listed(forms)?;
+    Ok(Sorted {
+        used: read_of(alloc, metas, forms.as_slice(), metas)?,
+        unread: unread_of(alloc, metas, forms.as_slice(), metas)?,
+    })
+}
+
+/// The rule of the metavariables that are used, whose forms are read again: those that are not used have the last numbers.
+fn rule_over(
+    alloc: Global,
+    sys: &System,
+    premises: &[Form<'_>],
+    name: Name<'_>,
+    conclusion: Form<'_>,
+    sorted: Sorted,
+) -> Result<Option<RuleScheme>, NoMemory>
+    requires { IsPlain sys.now.sig sys.now.judgments (settled (record { root = Closed; metas = sorted.used ++ sorted.unread; knowns = [] })) want_judgment }
+    ensures { IfOk result (λ found. MatchOption found
+        ((js : List JudgmentScheme) (j : JudgmentScheme)
+        → AllZip (ReadsOnlyAs sys.now.sig sys.now.judgments (record { root = Closed; metas = sorted.used ++ sorted.unread; knowns = [] })) (map (λ form. map kind_and_text form.now) premises.now) js
+        → ReadsOnlyAs sys.now.sig sys.now.judgments (record { root = Closed; metas = sorted.used ++ sorted.unread; knowns = [] }) (map kind_and_text conclusion.now) j → ⊥)
+        (λ r. (r.name ≡ name.now.text.now) × (r.metas ≡ sorted.used)
+        × AllZip (ReadsOnlyAs sys.now.sig sys.now.judgments (record { root = Closed; metas = sorted.used ++ sorted.unread; knowns = [] })) (map (λ form. map kind_and_text form.now) premises.now) (map judgment_scheme r.premises)
+        × ReadsOnlyAs sys.now.sig sys.now.judgments (record { root = Closed; metas = sorted.used ++ sorted.unread; knowns = [] }) (map kind_and_text conclusion.now) (judgment_scheme r.conclusion))) }
+{
+    let Sorted { used, unread } = sorted;
+    let scope = scope_of(alloc, with_more(alloc, used.as_slice(), unread)?);
+    match forms_of(alloc, sys, &scope, premises, conclusion)? {
+        Some(forms) => Ok(Some(made(alloc, name, used, forms)?)),
+        None => Ok(None),
+    }
 }
 
 /// Whether the conclusion is of the last of so many judgments.
@@ -141,7 +201,9 @@ pub fn rule_of(
             if !is_of_block(block, &forms) {
                 return Ok(None);
             }
-            Ok(Some(made(alloc, name, scope, forms)?))
+            let metas = metas_of(scope);
+            let sorted = sort_names(alloc, metas.as_slice(), forms)?;
+            rule_over(alloc, sys, premises, name, conclusion, sorted)
         }
         None => Ok(None),
     }

@@ -2,6 +2,7 @@
 ghost use Rattle.std.specs.Prelude.{◌≡◌, ◌↔◌, ◌++◌, ◌∷◌, [], suc, IsTrue, IfOk, OnOk, MatchOption, List, map, flat_map};
 ghost use Rattle.std.specs.List.{AllZip, AllByRecursion};
 ghost use Rattle.scheme_terms.specs.View.{names};
+ghost use Rattle.scheme_terms.specs.declared.scheme.Root.TheVariants.{Closed};
 ghost use Rattle.proof_lexer.specs.View.{kind_and_text};
 ghost use Rattle.outline_reader.specs.Views.{portion_view};
 ghost use Rattle.outline_reader.specs.Plain.{plain_portion, outlined};
@@ -16,59 +17,79 @@ ghost use Rattle.user_grammar.specs.Bare.{IsBareSignature};
 ghost use Rattle.judgments.specs.Bare.{IsBareTheory, IsBareStatement};
 ghost use Rattle.judgments.specs.Built.{IsBuiltTheorem, bare_text};
 ghost use Rattle.judgments.specs.Collected.{AreCollected};
+ghost use Rattle.judgments.specs.Standing.{AreReadOf, AreUnreadOf};
 ghost use Rattle.judgments.specs.Statements.{AreStatementsOf, IsNamedFreely, AreNamedDifferently};
 ghost use Rattle.judgments.specs.Texts.{target_in, first_target, theorem_in, theorems_in, group_of, groups_after};
 ghost use Rattle.judgments.specs.Views.{given_text, input_text};
-ghost use Rattle.judgments.specs.Written.{ReadsOnlyAs};
+ghost use Rattle.judgments.specs.Written.{settled, ReadsOnlyAs};
 
 use crate::inputs::{all_named_freely, given_of, named_differently};
 use crate::names::{take_all_names, take_given_names};
 use crate::naming::{Declares, named_apart};
-use crate::readings::{read_form, read_forms, scope_of};
+use crate::readings::{metas_of, read_form, read_forms, scope_of};
+use crate::standing::{read_of, unread_of, with_more};
 use crate::words::{number, text_of};
 use binding_terms::{NoMemory, Sig};
 use outline_reader::{Form, InputText, Just, Name, NamedForm, Outline, Portion};
 use rule_schemes::{Input, JScheme, ReadScope, Statement, System};
-use scheme_terms::{MetaDecl, Scope};
+use scheme_terms::{MetaDecl, Root, Scope};
 use sqlite_items::Items;
 use std::alloc::Global;
 
-/// The metavariables of the inputs and then the further ones of the conclusions.
+/// The metavariables of the forms of inputs, as they are collected.
+fn input_names(
+    alloc: Global,
+    sig: &Sig,
+    inputs: &[NamedForm<'_>],
+) -> Result<Items<MetaDecl>, NoMemory>
+    ensures { IfOk result (λ metas. AreCollected sig.now.cats (flat_map (λ named. map kind_and_text named.form.now) inputs.now) metas) }
+{
+    let mut metas = Items::new(alloc);
+    take_given_names(alloc, sig, &mut metas, inputs)?;
+    Ok(metas)
+}
+
+/// The metavariables of the conclusions.
+fn output_names(alloc: Global, sig: &Sig, outputs: &[Form<'_>]) -> Result<Items<MetaDecl>, NoMemory>
+    ensures { IfOk result (λ metas. AreCollected sig.now.cats (flat_map (λ form. map kind_and_text form.now) outputs.now) metas) }
+{
+    let mut metas = Items::new(alloc);
+    take_all_names(alloc, sig, &mut metas, outputs)?;
+    Ok(metas)
+}
+
+/// The metavariables of both.
 fn names_of(
     alloc: Global,
     sig: &Sig,
     inputs: &[NamedForm<'_>],
     outputs: &[Form<'_>],
 ) -> Result<Items<MetaDecl>, NoMemory>
-    ensures { IfOk result (λ metas. (first : List MetaDecl) × (further : List MetaDecl) × (metas ≡ first ++ further)
-        × AreCollected sig.now.cats (flat_map (λ named. map kind_and_text named.form.now) inputs.now) first
-        × AreCollected sig.now.cats (flat_map (λ named. map kind_and_text named.form.now) inputs.now
-        ++ flat_map (λ form. map kind_and_text form.now) outputs.now) (first ++ further)) }
+    ensures { IfOk result (λ metas. AreCollected sig.now.cats (flat_map (λ named. map kind_and_text named.form.now) inputs.now
+        ++ flat_map (λ form. map kind_and_text form.now) outputs.now) metas) }
 {
-    let mut metas = Items::new(alloc);
-    take_given_names(alloc, sig, &mut metas, inputs)?;
+    let mut metas = input_names(alloc, sig, inputs)?;
     take_all_names(alloc, sig, &mut metas, outputs)?;
     Ok(metas)
 }
 
-/// The inputs that are the one readings of the forms.
+/// The judgments that are the one readings of the inputs' forms.
 fn read_inputs(
     alloc: Global,
     sys: &System,
     scope: &ReadScope,
     inputs: &[NamedForm<'_>],
-) -> Result<Option<Items<Input>>, NoMemory>
+) -> Result<Option<Vec<JScheme>>, NoMemory>
     requires { IsPlain sys.now.sig sys.now.judgments (reading_scope scope.now) want_judgment }
     ensures { IfOk result (λ found. MatchOption found
         ((js : List JudgmentScheme) → AllZip (ReadsOnlyAs sys.now.sig sys.now.judgments (names scope.now.scope))
         (map (λ named. map kind_and_text named.form.now) inputs.now) js → ⊥)
-        (λ all. (js : List JudgmentScheme) × (map statement_input all ≡ map given js)
-        × AllZip (ReadsOnlyAs sys.now.sig sys.now.judgments (names scope.now.scope)) (map (λ named. map kind_and_text named.form.now) inputs.now) js)) }
+        (λ all. AllZip (ReadsOnlyAs sys.now.sig sys.now.judgments (names scope.now.scope)) (map (λ named. map kind_and_text named.form.now) inputs.now) (map judgment_scheme all.items))) }
 {
-    let mut all = Items::new(alloc);
+    let mut all = Vec::new(alloc);
     for named in inputs {
         match read_form(alloc, sys.sig(), sys.judgments(), scope, named.form)? {
-            Some(j) => all.push(Input::Given(j))?,
+            Some(j) => all.push(j)?,
             None => return Ok(None),
         }
     }
@@ -78,7 +99,7 @@ fn read_inputs(
 /// The forms of a theorem as they read.
 #[derive(Drop)]
 struct Parts {
-    inputs: Items<Input>,
+    inputs: Vec<JScheme>,
     outputs: Items<JScheme>,
 }
 
@@ -95,8 +116,7 @@ fn parts_of(
         ((js : List JudgmentScheme) (zs : List JudgmentScheme)
         → AllZip (ReadsOnlyAs sys.now.sig sys.now.judgments (names scope.now.scope)) (map (λ named. map kind_and_text named.form.now) inputs.now) js
         → AllZip (ReadsOnlyAs sys.now.sig sys.now.judgments (names scope.now.scope)) (map (λ form. map kind_and_text form.now) outputs.now) zs → ⊥)
-        (λ parts. (js : List JudgmentScheme) × (map statement_input parts.inputs ≡ map given js)
-        × AllZip (ReadsOnlyAs sys.now.sig sys.now.judgments (names scope.now.scope)) (map (λ named. map kind_and_text named.form.now) inputs.now) js
+        (λ parts. AllZip (ReadsOnlyAs sys.now.sig sys.now.judgments (names scope.now.scope)) (map (λ named. map kind_and_text named.form.now) inputs.now) (map judgment_scheme parts.inputs.items)
         × AllZip (ReadsOnlyAs sys.now.sig sys.now.judgments (names scope.now.scope)) (map (λ form. map kind_and_text form.now) outputs.now) (map judgment_scheme parts.outputs))) }
 {
     match read_inputs(alloc, sys, scope, inputs)? {
@@ -108,30 +128,89 @@ fn parts_of(
     }
 }
 
-/// The names of a scope that is done with.
-fn names_in(scope: ReadScope) -> Scope
-    ensures { result ≡ scope.scope }
-{
-    let ReadScope {
-        scope,
-        vars: _,
-        fresh: _,
-    } = scope;
-    scope
+/// The metavariables that stand in the inputs' readings, the further ones that stand in the conclusions', and those that stand in none.
+#[derive(Drop)]
+struct Sorted {
+    of_inputs: Items<MetaDecl>,
+    further: Items<MetaDecl>,
+    unread: Items<MetaDecl>,
 }
 
-/// The statement of this name and group with these forms.
+/// The further metavariables of the conclusions.
+fn further_of(
+    alloc: Global,
+    metas: &[MetaDecl],
+    parts: &Parts,
+    listed: &[MetaDecl],
+) -> Result<Items<MetaDecl>, NoMemory>
+    ensures { IfOk result (λ those. (read : List MetaDecl) × AreReadOf metas.now (map judgment_scheme parts.now.outputs) listed.now read
+        × AreUnreadOf metas.now (map judgment_scheme parts.now.inputs.items) read those) }
+{
+    let read = read_of(alloc, metas, parts.outputs.as_slice(), listed)?;
+    unread_of(alloc, metas, parts.inputs.as_slice(), read.as_slice())
+}
+
+/// The metavariables that stand in no form.
+fn unread_in(alloc: Global, metas: &[MetaDecl], parts: &Parts) -> Result<Items<MetaDecl>, NoMemory>
+    ensures { IfOk result (λ those. (others : List MetaDecl) × AreUnreadOf metas.now (map judgment_scheme parts.now.inputs.items) metas.now others
+        × AreUnreadOf metas.now (map judgment_scheme parts.now.outputs) others those) }
+{
+    let others = unread_of(alloc, metas, parts.inputs.as_slice(), metas)?;
+    unread_of(alloc, metas, parts.outputs.as_slice(), others.as_slice())
+}
+
+/// The metavariables over which the forms were read, sorted by where they stand. Each kind is in the order of its forms' tokens.
+fn sort_names(
+    alloc: Global,
+    sig: &Sig,
+    metas: &[MetaDecl],
+    parts: &Parts,
+    inputs: &[NamedForm<'_>],
+    outputs: &[Form<'_>],
+) -> Result<Sorted, NoMemory>
+    ensures of_inputs { IfOk result (λ s. (own : List MetaDecl) × AreCollected sig.now.cats (flat_map (λ named. map kind_and_text named.form.now) inputs.now) own
+        × AreReadOf metas.now (map judgment_scheme parts.now.inputs.items) own s.of_inputs) }
+    ensures further { IfOk result (λ s. (own : List MetaDecl) × (read : List MetaDecl) × AreCollected sig.now.cats (flat_map (λ form. map kind_and_text form.now) outputs.now) own
+        × AreReadOf metas.now (map judgment_scheme parts.now.outputs) own read
+        × AreUnreadOf metas.now (map judgment_scheme parts.now.inputs.items) read s.further) }
+    ensures unread { IfOk result (λ s. (others : List MetaDecl) × AreUnreadOf metas.now (map judgment_scheme parts.now.inputs.items) metas.now others
+        × AreUnreadOf metas.now (map judgment_scheme parts.now.outputs) others s.unread) }
+{
+    let own = input_names(alloc, sig, inputs)?;
+    let of_inputs = read_of(alloc, metas, parts.inputs.as_slice(), own.as_slice())?;
+    let listed = output_names(alloc, sig, outputs)?;
+    let further = further_of(alloc, metas, parts, listed.as_slice())?;
+    let unread = unread_in(alloc, metas, parts)?;
+    Ok(Sorted {
+        of_inputs,
+        further,
+        unread,
+    })
+}
+
+/// The judgments as inputs.
+fn given_inputs(alloc: Global, judgments: Vec<JScheme>) -> Result<Items<Input>, NoMemory>
+    ensures { IfOk result (λ all. map statement_input all ≡ map given (map judgment_scheme judgments.items)) }
+{
+    let mut all = Items::new(alloc);
+    for j in judgments {
+        all.push(Input::Given(j))?;
+    }
+    Ok(all)
+}
+
+/// The statement of this name and group with these metavariables and forms.
 fn made(
     alloc: Global,
     group: usize,
     name: Name<'_>,
-    scope: ReadScope,
+    metas: Items<MetaDecl>,
     parts: Parts,
 ) -> Result<Statement, NoMemory>
     ensures { IfOk result (λ st. plain_statement st ≡ record {
       name = name.now.text.now;
-      scope = names scope.scope;
-      inputs = map statement_input parts.inputs;
+      scope = record { root = Closed; metas = metas; knowns = [] };
+      inputs = map given (map judgment_scheme parts.inputs.items);
       outputs = map judgment_scheme parts.outputs;
       targets = [];
       group = group;
@@ -142,8 +221,12 @@ fn made(
     let Parts { inputs, outputs } = parts;
     Ok(Statement {
         name,
-        scope: names_in(scope),
-        inputs,
+        scope: Scope {
+            root: Root::Closed,
+            metas,
+            knowns: Items::new(alloc),
+        },
+        inputs: given_inputs(alloc, inputs)?,
         outputs,
         targets: Items::new(alloc),
         group,
@@ -156,6 +239,46 @@ fn names_fit(sig: &Sig, inputs: &[NamedForm<'_>]) -> bool
     ensures { IsTrue result ↔ (AllByRecursion (IsNamedFreely sig.now) (map given_text inputs.now) × AreNamedDifferently (map given_text inputs.now)) }
 {
     all_named_freely(sig, inputs) && named_differently(inputs)
+}
+
+/// The statement of the metavariables that stand in forms, which are read again: those that stand in none have the last numbers.
+fn statement_over(
+    alloc: Global,
+    sys: &System,
+    group: usize,
+    name: Name<'_>,
+    inputs: &[NamedForm<'_>],
+    outputs: &[Form<'_>],
+    sorted: Sorted,
+) -> Result<Option<Statement>, NoMemory>
+    requires { IsPlain sys.now.sig sys.now.judgments (settled (record { root = Closed; metas = (sorted.of_inputs ++ sorted.further) ++ sorted.unread; knowns = [] })) want_judgment }
+    ensures { IfOk result (λ found. MatchOption found
+        ((js : List JudgmentScheme) (zs : List JudgmentScheme)
+        → AllZip (ReadsOnlyAs sys.now.sig sys.now.judgments (record { root = Closed; metas = (sorted.of_inputs ++ sorted.further) ++ sorted.unread; knowns = [] })) (map (λ named. map kind_and_text named.form.now) inputs.now) js
+        → AllZip (ReadsOnlyAs sys.now.sig sys.now.judgments (record { root = Closed; metas = (sorted.of_inputs ++ sorted.further) ++ sorted.unread; knowns = [] })) (map (λ form. map kind_and_text form.now) outputs.now) zs → ⊥)
+        (λ st. (js : List JudgmentScheme) × (zs : List JudgmentScheme)
+        × (plain_statement st ≡ record {
+          name = name.now.text.now;
+          scope = record { root = Closed; metas = sorted.of_inputs ++ sorted.further; knowns = [] };
+          inputs = map given js;
+          outputs = zs;
+          targets = [];
+          group = group;
+        })
+        × AllZip (ReadsOnlyAs sys.now.sig sys.now.judgments (record { root = Closed; metas = (sorted.of_inputs ++ sorted.further) ++ sorted.unread; knowns = [] })) (map (λ named. map kind_and_text named.form.now) inputs.now) js
+        × AllZip (ReadsOnlyAs sys.now.sig sys.now.judgments (record { root = Closed; metas = (sorted.of_inputs ++ sorted.further) ++ sorted.unread; knowns = [] })) (map (λ form. map kind_and_text form.now) outputs.now) zs)) }
+{
+    let Sorted {
+        of_inputs,
+        further,
+        unread,
+    } = sorted;
+    let used = with_more(alloc, of_inputs.as_slice(), further)?;
+    let scope = scope_of(alloc, with_more(alloc, used.as_slice(), unread)?);
+    match parts_of(alloc, sys, &scope, inputs, outputs)? {
+        Some(parts) => Ok(Some(made(alloc, group, name, used, parts)?)),
+        None => Ok(None),
+    }
 }
 
 /// The statement of a theorem on derivations alone, which has no root and no targets.
@@ -178,7 +301,11 @@ fn statement_of(
     let metas = names_of(alloc, sys.sig(), inputs, outputs)?;
     let scope = scope_of(alloc, metas);
     match parts_of(alloc, sys, &scope, inputs, outputs)? {
-        Some(parts) => Ok(Some(made(alloc, group, name, scope, parts)?)),
+        Some(parts) => {
+            let metas = metas_of(scope);
+            let sorted = sort_names(alloc, sys.sig(), metas.as_slice(), &parts, inputs, outputs)?;
+            statement_over(alloc, sys, group, name, inputs, outputs, sorted)
+        }
         None => Ok(None),
     }
 }

@@ -1,6 +1,11 @@
+use Rattle.rule_schemes.specs.Said.{want_judgment}
 use Rattle.notation_parser.specs.View.{reading_scope}
+use Rattle.notation_parser.proofs.Readable.{plain_readable}
 use Rattle.judgments.proofs.OneReading.{one_answer, no_answer, two_answers}
 use Rattle.judgments.proofs.readings.read_form.Goals as goal
+
+pub read-requires : goal.read-requires
+read-requires c = plain_readable c.args.sig.now c.args.judgments.now.items (reading_scope c.args.scope.now) want_judgment c.requires
 
 pub returns-in-One : goal.returns-in-One
 returns-in-One c =

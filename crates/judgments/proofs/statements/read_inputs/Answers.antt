@@ -1,9 +1,7 @@
-use Rattle.std.proofs.Common.{map, ◌++◌, [], ◌∷◌, sym, ap, ◌∙◌, List}
+use Rattle.std.proofs.Common.{map, [], ◌∷◌}
 use Rattle.scheme_terms.specs.View.{names}
 use Rattle.proof_lexer.specs.View.{kind_and_text}
-use Rattle.rule_schemes.specs.Statement.{StatementInput, given}
-use Rattle.rule_schemes.specs.View.{judgment_scheme, statement_input}
-use Rattle.rule_schemes.specs.declared.rule.Input.TheVariants.{Given}
+use Rattle.rule_schemes.specs.View.{judgment_scheme}
 use Rattle.judgments.specs.Written.{ReadsOnlyAs}
 use Rattle.judgments.proofs.Zips.{zip_more, zip_none, map_append}
 use Rattle.judgments.proofs.statements.read_inputs.Goals as goal
@@ -15,10 +13,6 @@ returns-in-None c =
 
 pub loop-named-preserved : goal.loop-named-preserved
 loop-named-preserved c =
-    let before = c.loop-named.invariant in
-    let j = judgment_scheme c.in-Some.j in (
-      before.0 ++ j ∷ [],
-      ap (map statement_input) c.in_ok-push-in-Some.ensures.ok ∙ map_append statement_input c.loop-named.all (Given c.in-Some.j ∷ []) ∙ ap (λ (l : List StatementInput). l ++ given j ∷ []) before.1 ∙ sym (map_append given before.0 (j ∷ [])),
-      zip_more (λ named. map kind_and_text named.form.now) (ReadsOnlyAs c.args.sys.now.sig c.args.sys.now.judgments (names c.args.scope.now.scope)) c.args.inputs.now c.loop-named.named-index _
-          before.0 j c.loop-named-test.true before.2 (rw (c.in-Some.is, c.sig.ensures, c.judgments.ensures) at c.in_ok-j.ensures),
-    )
+    rw (c.in_ok-push-in-Some.ensures.items, map_append judgment_scheme c.loop-named.all.items (c.in-Some.j ∷ []))
+    (zip_more (λ named. map kind_and_text named.form.now) (ReadsOnlyAs c.args.sys.now.sig c.args.sys.now.judgments (names c.args.scope.now.scope)) c.args.inputs.now c.loop-named.named-index _
+    (map judgment_scheme c.loop-named.all.items) (judgment_scheme c.in-Some.j) c.loop-named-test.true c.loop-named.invariant (rw (c.in-Some.is, c.sig.ensures, c.judgments.ensures) at c.in_ok-j.ensures))
