@@ -9,7 +9,7 @@ use Rattle.rule_schemes.specs.Rules.{Theory}
 use Rattle.rule_schemes.specs.Derivation.{Derivation, Derives}
 use Rattle.rule_schemes.specs.Reading.{word, punctuation}
 use Rattle.rule_schemes.specs.Reading.{Token as Read}
-use Rattle.notation_parser.specs.View.{token}
+use Rattle.term_reader.specs.View.{token}
 use Rattle.derivation_text.specs.Forms.{is_name, AreNames, further_names, on_tokens}
 use Rattle.derivation_text.specs.Valid.{tree_named}
 use Rattle.derivation_text.specs.Found as found

@@ -7,7 +7,7 @@ use Rattle.std.specs.List.{AllByRecursion}
 use Rattle.rule_schemes.specs.Reading.{word, punctuation}
 use Rattle.rule_schemes.specs.Reading.{Token as Read}
 use Rattle.proof_lexer.specs.declared.token.Token.{Token}
-use Rattle.notation_parser.specs.View.{token}
+use Rattle.term_reader.specs.View.{token}
 use Rattle.derivation_text.specs.Forms.{IsBalanced, at_end, opens, closes, neither, Argument, by_name, enclosed, IsForm, IsArgument, argument_tokens, further_arguments, arguments_tokens, APPLY, GIVES, is_name, AreNames, further_names, names_tokens}
 use Rattle.derivation_text.specs.Valid.{tree_named, no_last, applied, given_out, IsLast, IsKnown, IsKnownArgument}
 use Rattle.derivation_text.specs.Found.{is_name_token, with_first}

@@ -24,6 +24,8 @@ use Rattle.rule_schemes.specs.declared.rule.Judgment.{Judgment}
 use Rattle.rule_schemes.specs.declared.reading.Reading.{Reading}
 use Rattle.rule_schemes.specs.declared.reading.Reading.TheVariants.{One, NoReading, Ambiguous}
 use Rattle.notation_parser.specs.Answer.{IsAnswer}
+use Rattle.notation_parser.specs.Plain.{IsReadable}
+use Rattle.notation_parser.proofs.Readable.{plain_readable}
 use Rattle.notation_parser.specs.View.{written}
 use Rattle.derivation_text.specs.Bare.{HasNoContexts}
 use Rattle.derivation_text.specs.Valid.{nothing_around, scope_at, ReadsAlone}
@@ -162,3 +164,16 @@ over th sig js scope ts r e f g h =
     subst (λ (s : Signature). IsAnswer s th.judgments (scope_at nothing_around) want_judgment ts r) e
     (subst (λ (l : List Judgment). IsAnswer sig l (scope_at nothing_around) want_judgment ts r) f
     (subst (λ (v : ReadingScope). IsAnswer sig js v want_judgment ts r) g h))
+
+-- forms are readable where there is no context
+pub readable : (th : Theory) → HasNoContexts th → IsReadable th.sig th.judgments (scope_at nothing_around)
+readable th h =
+    plain_readable th.sig th.judgments (scope_at nothing_around) want_judgment
+    (record {
+      nothing_binds = record { variables = h.variables; names = tt; parameters = tt };
+      judgments = h.judgments;
+      knowns = refl;
+      vars = refl;
+      fresh = refl;
+      no_context = tt;
+    })

@@ -9,7 +9,7 @@ use Rattle.proof_lexer.specs.declared.token.Kind.{Kind}
 use Rattle.proof_lexer.specs.declared.token.Kind.TheVariants.{Word, Symbol, Punct, Bar, Quoted}
 use Rattle.proof_lexer.specs.declared.token.Token.{Token}
 use Rattle.rule_schemes.specs.Reading.{Token as Read}
-use Rattle.notation_parser.specs.View.{token, kind_number}
+use Rattle.term_reader.specs.View.{token, kind_number}
 use Rattle.derivation_text.specs.Lines.{Line, taken, in_front, text_lines}
 use Rattle.derivation_text.specs.Splitting.{IsOtherLine, IsLineCut, IsFirstLine}
 

@@ -1,7 +1,7 @@
 -- What a contract sees of the lines that were read.
 use Rattle.std.specs.Prelude.{map}
 use Rattle.rule_schemes.specs.Reading.{Token}
-use Rattle.notation_parser.specs.View.{kind_number}
+use Rattle.term_reader.specs.View.{kind_number}
 use Rattle.derivation_text.specs.Forms as forms
 use Rattle.derivation_text.specs.Valid.{Last, no_last, applied, given_out, Contents}
 use Rattle.derivation_text.specs.declared.derivs.Kept.{Kept}

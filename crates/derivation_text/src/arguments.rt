@@ -1,7 +1,7 @@
 //! The arguments of an `apply` line.
 ghost use Rattle.std.specs.Prelude.{◌≡◌, ◌≤◌, ◌<◌, ◌↔◌, ◌∷◌, ◌++◌, IsTrue, IfOk, IfSome, MatchOption, MatchBool, ◌+◌, ◌-◌, ◌^◌, map, length, List, take, drop};
 ghost use Rattle.rule_schemes.specs.Reading.{punctuation};
-ghost use Rattle.notation_parser.specs.View.{token};
+ghost use Rattle.term_reader.specs.View.{token};
 ghost use Rattle.derivation_text.specs.Ending as spec;
 ghost use Rattle.derivation_text.specs.Ending.{HasNoClosing, Closes, Turns, HasNoFront, IsFront, HasNoRest, IsRest, HasNoArguments, IsArguments};
 ghost use Rattle.derivation_text.specs.Contents.{kept_token, argument};

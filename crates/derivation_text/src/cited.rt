@@ -1,6 +1,6 @@
 //! The trees of names.
 ghost use Rattle.std.specs.Prelude.{◌≡◌, ◌++◌, ◌∷◌, IfOk, Some, None, map, option_map, if◌then◌else◌};
-ghost use Rattle.notation_parser.specs.View.{token};
+ghost use Rattle.term_reader.specs.View.{token};
 ghost use Rattle.derivation_text.specs.Found as found;
 ghost use Rattle.derivation_text.specs.Valid.{tree_named};
 

@@ -1,6 +1,6 @@
 //! The last line of a text.
 ghost use Rattle.std.specs.Prelude.{◌∷◌, IfOk, MatchOption, map};
-ghost use Rattle.notation_parser.specs.View.{token};
+ghost use Rattle.term_reader.specs.View.{token};
 ghost use Rattle.derivation_text.specs.Ending as spec;
 ghost use Rattle.derivation_text.specs.Ending.{HasNoLast};
 ghost use Rattle.derivation_text.specs.Contents.{last_of};

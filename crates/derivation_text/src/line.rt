@@ -5,7 +5,7 @@ ghost use Rattle.std.specs.Str.{bytes_eq};
 ghost use Rattle.std.specs.List.{AllByRecursion};
 ghost use Rattle.rule_schemes.specs.Derivation.{Derives};
 ghost use Rattle.rule_schemes.specs.View.{theory};
-ghost use Rattle.notation_parser.specs.View.{token};
+ghost use Rattle.term_reader.specs.View.{token};
 ghost use Rattle.derivation_text.specs.Bare.{HasNoContexts};
 ghost use Rattle.derivation_text.specs.Found.{HasParts, AllDerive, IsPartsTree, HasNoPartsTree, HasNoNamedTree};
 ghost use Rattle.derivation_text.specs.Valid.{nothing_around, rule_named, NamesTree};

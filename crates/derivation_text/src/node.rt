@@ -1,7 +1,7 @@
 //! The parts of a line with a judgment.
 ghost use Rattle.std.specs.Prelude.{◌≡◌, ◌∷◌, MatchOption, map, List, ℕ};
 ghost use Rattle.rule_schemes.specs.Reading.{Token as Read};
-ghost use Rattle.notation_parser.specs.View.{token};
+ghost use Rattle.term_reader.specs.View.{token};
 ghost use Rattle.derivation_text.specs.Found.{IsCut, HasParts, HasNoParts, HasFormParts, HasNoFormParts};
 
 use crate::signs::{is_colon, is_name_token, is_own_name_token, is_reserved_token, is_word};

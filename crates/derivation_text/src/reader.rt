@@ -2,7 +2,7 @@
 ghost use Rattle.std.specs.Prelude.{◌≡◌, ◌<◌, ◌-◌, ◌^◌, IfOk, MatchOption, map, length, [], List};
 ghost use Rattle.rule_schemes.specs.View.{theory};
 ghost use Rattle.proof_lexer.specs.View.{token_view};
-ghost use Rattle.notation_parser.specs.View.{token};
+ghost use Rattle.term_reader.specs.View.{token};
 ghost use Rattle.derivation_text.specs.Bare.{HasNoContexts};
 ghost use Rattle.derivation_text.specs.Contents.{contents};
 ghost use Rattle.derivation_text.specs.Found.{AllDerive};

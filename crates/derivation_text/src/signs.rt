@@ -1,7 +1,7 @@
 //! Tests of tokens.
 ghost use Rattle.std.specs.Prelude.{◌≡◌, ◌↔◌, IsTrue, ◌∷◌, [], codes, map};
 ghost use Rattle.rule_schemes.specs.Reading.{punctuation, word};
-ghost use Rattle.notation_parser.specs.View.{token};
+ghost use Rattle.term_reader.specs.View.{token};
 ghost use Rattle.derivation_text.specs.Forms as forms;
 ghost use Rattle.derivation_text.specs.Found as found;
 

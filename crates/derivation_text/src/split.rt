@@ -1,7 +1,7 @@
 //! The lines of a text.
 ghost use Rattle.std.specs.Prelude.{◌≡◌, ◌<◌, ◌++◌, length, map};
 ghost use Rattle.proof_lexer.specs.View.{token_view};
-ghost use Rattle.notation_parser.specs.View.{token};
+ghost use Rattle.term_reader.specs.View.{token};
 ghost use Rattle.derivation_text.specs.Splitting.{IsLineCut, IsFirstLine};
 
 use proof_lexer::Token;

@@ -1,14 +1,13 @@
 -- A signature is bare where each category and each item is.
 use Rattle.std.specs.Prelude.{IsTrue}
-use Rattle.std.proofs.Common.{◌≡◌, ◌↔◌, ℕ, Bool, List, [], ◌∷◌, false, None, subst}
+use Rattle.std.proofs.Common.{◌≡◌, ◌↔◌, Bool, List, [], ◌∷◌, false, None, subst}
 use Rattle.std.specs.List.{AllByRecursion}
 use Rattle.binding_terms.specs.Signature.{Signature, slots}
 use Rattle.binding_terms.specs.declared.grammar.Cat.{Cat}
 use Rattle.binding_terms.specs.declared.grammar.Item.{Item}
 use Rattle.binding_terms.specs.declared.grammar.Item.TheVariants.{Word, Slot, Binder}
 use Rattle.binding_terms.specs.declared.grammar.Prod.{Prod}
-use Rattle.user_grammar.specs.Bare.{IsNotAmbiguous, IsBareSignature}
-use Rattle.user_grammar.specs.Names.{category_names}
+use Rattle.user_grammar.specs.Bare.{IsBareSignature}
 use Rattle.proof_check.specs.Bare.{IsBareCategory, IsBareItem, IsBareProduction}
 
 -- what holds of each of both
@@ -20,52 +19,40 @@ weakened : {A : Type 0} (P Q : A → Type 0) → ((x : A) → P x → Q x) → (
 weakened P Q f [] all = tt
 weakened P Q f (x ∷ xs) all = (f x all.0, weakened P Q f xs all.1)
 
-to_item : (names : List (List ℕ)) (items : List Item) → AllByRecursion (λ slot. slot.binds ≡ []) (slots items) → AllByRecursion (IsNotAmbiguous names) items → AllByRecursion (IsBareItem names) items
-to_item names [] binds apart = tt
-to_item names (Word text quoted ∷ items) binds apart = (apart.0, to_item names items binds apart.1)
-to_item names (Slot cat bound ∷ items) binds apart = (binds.0, to_item names items binds.1 apart.1)
-to_item names (Binder cat ∷ items) binds apart = (tt, to_item names items binds apart.1)
+to_item : (items : List Item) → AllByRecursion (λ slot. slot.binds ≡ []) (slots items) → AllByRecursion IsBareItem items
+to_item [] binds = tt
+to_item (Word text quoted ∷ items) binds = (tt, to_item items binds)
+to_item (Slot cat bound ∷ items) binds = (binds.0, to_item items binds.1)
+to_item (Binder cat ∷ items) binds = (tt, to_item items binds)
 
-to_binds : (names : List (List ℕ)) (items : List Item) → AllByRecursion (IsBareItem names) items → AllByRecursion (λ slot. slot.binds ≡ []) (slots items)
-to_binds names [] all = tt
-to_binds names (Word text quoted ∷ items) all = to_binds names items all.1
-to_binds names (Slot cat bound ∷ items) all = (all.0, to_binds names items all.1)
-to_binds names (Binder cat ∷ items) all = to_binds names items all.1
-
-to_apart : (names : List (List ℕ)) (items : List Item) → AllByRecursion (IsBareItem names) items → AllByRecursion (IsNotAmbiguous names) items
-to_apart names [] all = tt
-to_apart names (Word text quoted ∷ items) all = (all.0, to_apart names items all.1)
-to_apart names (Slot cat bound ∷ items) all = (tt, to_apart names items all.1)
-to_apart names (Binder cat ∷ items) all = (tt, to_apart names items all.1)
+to_binds : (items : List Item) → AllByRecursion IsBareItem items → AllByRecursion (λ slot. slot.binds ≡ []) (slots items)
+to_binds [] all = tt
+to_binds (Word text quoted ∷ items) all = to_binds items all.1
+to_binds (Slot cat bound ∷ items) all = (all.0, to_binds items all.1)
+to_binds (Binder cat ∷ items) all = to_binds items all.1
 
 abbrev IsBareByParts : Signature → Type 0
-IsBareByParts sig = AllByRecursion IsBareCategory sig.cats × AllByRecursion (IsBareProduction (category_names sig.cats)) sig.prods
+IsBareByParts sig = AllByRecursion IsBareCategory sig.cats × AllByRecursion IsBareProduction sig.prods
 
 to_parts : (sig : Signature) → IsBareSignature sig → IsBareByParts sig
 to_parts sig is = (
   zipped (λ (cat : Cat). cat.context ≡ false) (λ (cat : Cat). cat.var ≡ None) sig.cats is.plain.no_context is.variables,
-  weakened (λ (prod : Prod). AllByRecursion (λ slot. slot.binds ≡ []) (slots prod.items) × AllByRecursion (IsNotAmbiguous (category_names sig.cats)) prod.items)
-      (IsBareProduction (category_names sig.cats)) (λ prod both. to_item (category_names sig.cats) prod.items both.0 both.1) sig.prods
-      (zipped (λ (prod : Prod). AllByRecursion (λ slot. slot.binds ≡ []) (slots prod.items)) (λ (prod : Prod). AllByRecursion (IsNotAmbiguous (category_names sig.cats)) prod.items)
-      sig.prods is.plain.no_binding is.terminals),
+  weakened (λ (prod : Prod). AllByRecursion (λ slot. slot.binds ≡ []) (slots prod.items)) IsBareProduction (λ prod binds. to_item prod.items binds) sig.prods is.plain.no_binding,
 )
 
 from_parts : (sig : Signature) → IsBareByParts sig → IsBareSignature sig
 from_parts sig is = record {
   plain = record {
     no_context = weakened IsBareCategory (λ (cat : Cat). cat.context ≡ false) (λ cat both. both.0) sig.cats is.0;
-    no_binding = weakened (IsBareProduction (category_names sig.cats)) (λ (prod : Prod). AllByRecursion (λ slot. slot.binds ≡ []) (slots prod.items))
-        (λ prod all. to_binds (category_names sig.cats) prod.items all) sig.prods is.1;
+    no_binding = weakened IsBareProduction (λ (prod : Prod). AllByRecursion (λ slot. slot.binds ≡ []) (slots prod.items)) (λ prod all. to_binds prod.items all) sig.prods is.1;
   };
   variables = weakened IsBareCategory (λ (cat : Cat). cat.var ≡ None) (λ cat both. both.1) sig.cats is.0;
-  terminals = weakened (IsBareProduction (category_names sig.cats)) (λ (prod : Prod). AllByRecursion (IsNotAmbiguous (category_names sig.cats)) prod.items)
-      (λ prod all. to_apart (category_names sig.cats) prod.items all) sig.prods is.1;
 }
 
 -- the test of the parts is the test of the signature
 pub bare_by_parts : (sig : Signature) (cats : List Cat) (prods : List Prod) (is : Bool) → cats ≡ sig.cats → prods ≡ sig.prods →
-    IsTrue is ↔ (AllByRecursion IsBareCategory cats × AllByRecursion (IsBareProduction (category_names cats)) prods) → IsTrue is ↔ IsBareSignature sig
+    IsTrue is ↔ (AllByRecursion IsBareCategory cats × AllByRecursion IsBareProduction prods) → IsTrue is ↔ IsBareSignature sig
 bare_by_parts sig cats prods is same_cats same_prods told =
-    let here = subst (λ (p : List Cat × List Prod). IsTrue is ↔ (AllByRecursion IsBareCategory p.0 × AllByRecursion (IsBareProduction (category_names p.0)) p.1))
+    let here = subst (λ (p : List Cat × List Prod). IsTrue is ↔ (AllByRecursion IsBareCategory p.0 × AllByRecursion IsBareProduction p.1))
     (λ i. (same_cats i, same_prods i)) told in
     ((λ yes. from_parts sig (here.0 yes)), (λ bare. here.1 (to_parts sig bare)))

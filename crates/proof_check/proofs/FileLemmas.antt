@@ -11,7 +11,8 @@ use Rattle.rule_schemes.specs.Rules.{Theory}
 use Rattle.rule_schemes.specs.Reading.{ReadingScope}
 use Rattle.rule_schemes.specs.Said.{want_judgment}
 use Rattle.rule_schemes.specs.Statement.{Theorem}
-use Rattle.notation_parser.specs.Plain.{NamesApart, NothingBinds, IsPlain}
+use Rattle.term_reader.specs.Names.{NamesApart}
+use Rattle.notation_parser.specs.Plain.{NothingBinds, IsPlain}
 use Rattle.core_proofs.specs.Step.{Step, begin_theorem}
 use Rattle.core_proofs.specs.Proof.{IsProofScope}
 use Rattle.judgments.specs.Written.{settled}

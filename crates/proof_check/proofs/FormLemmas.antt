@@ -15,7 +15,7 @@ use Rattle.proof_lexer.specs.declared.token.Kind.TheVariants.{Word, Symbol, Punc
 use Rattle.proof_lexer.specs.declared.token.Token.{Token as LentToken}
 use Rattle.proof_lexer.specs.View as lexer
 use Rattle.proof_lexer.specs.View.{token_view}
-use Rattle.notation_parser.specs.View as parser
+use Rattle.term_reader.specs.View as parser
 use Rattle.outline_reader.specs.Plain.{taken}
 use Rattle.judgments.specs.Written.{settled, ReadsOnlyAs}
 use Rattle.proof_check.specs.Finding.{Finds}

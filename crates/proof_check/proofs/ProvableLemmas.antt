@@ -6,7 +6,8 @@ use Rattle.scheme_terms.specs.SchemeScope.{AreDifferentNames}
 use Rattle.scheme_terms.specs.declared.scheme.MetaDecl.{MetaDecl}
 use Rattle.rule_schemes.specs.Rules.{Theory}
 use Rattle.rule_schemes.specs.Statement.{StatementInput, given, syntax_input, Theorem, IsOfInputs, IsOfOutputs}
-use Rattle.notation_parser.specs.Plain.{NamesApart, NothingBinds}
+use Rattle.term_reader.specs.Names.{NamesApart}
+use Rattle.notation_parser.specs.Plain.{NothingBinds}
 use Rattle.judgments.specs.Bare.{IsBareTheory, IsBareStatement, IsGivenInput}
 use Rattle.judgments.specs.Texts.{TheoremText}
 use Rattle.judgments.specs.Statements.{IsTheoremOf}

@@ -30,7 +30,7 @@ use proof_lexer::{LexFault, Token, lex, tokens_are_unique};
 use rule_schemes::{Statement, System};
 use std::alloc::Global;
 use sy_base::Refusal;
-use user_grammar::{signature, signatures_are_unique};
+use user_grammar::{faulty_files_have_no_signature, grammar, signatures_are_unique};
 
 /// Proofs of the statements by the steps, or none where a step is not right or a theorem has no proof.
 fn prove(
@@ -152,10 +152,11 @@ pub(crate) fn over_signature(
 fn parts_of(alloc: Global, outline: &Outline<'_>) -> Result<Option<Accepted>, NoMemory>
     ensures { IfOk result (IsOnlyFile (IsBuiltFileOf (outlined outline.now))) }
 {
-    signatures_are_unique();
-    match signature(alloc, outline)? {
-        Some(sig) => theory_of(alloc, outline, sig),
-        None => Ok(None),
+    faulty_files_have_no_signature();
+    match grammar(alloc, outline) {
+        Ok(sig) => over_signature(alloc, outline, sig),
+        Err(Refusal::Refused(_)) => Ok(None),
+        Err(Refusal::NoMemory) => Err(NoMemory),
     }
 }
 

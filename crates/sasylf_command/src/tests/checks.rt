@@ -132,7 +132,43 @@ judgment same: e = e
 ];
 
 /// The other half.
-pub const MORE: [Row; 18] = [
+pub const MORE: [Row; 20] = [
+    // A word that is a terminal in quotes and a spelling of a category: what it is tells the one reading of its form.
+    Row {
+        source: "terminals z ok
+syntax
+n ::= z | \"n\" n
+judgment fine: n ok
+---- zero
+z ok
+n ok
+---- up
+n n ok
+n z ok
+---- next
+n n1 ok
+theorem two: forall d: n ok exists n n n ok.
+d1: n n ok by rule up on d
+d2: n n n ok by rule up on d1
+end theorem
+theorem other: forall d: n z ok exists n n z ok.
+d1: n n z ok by rule up on d
+end theorem
+",
+        ..RIGHT
+    },
+    // Where it may be both, the form has two readings.
+    Row {
+        source: "terminals z ok
+syntax
+n ::= z | \"n\"
+judgment fine: n ok
+n ok
+---- up
+z ok
+",
+        ..WRONG
+    },
     Row {
         source: "terminals z\nsyntax\nn ::= z\nn ::= z z\n",
         status: 1,

@@ -1,5 +1,5 @@
 use Rattle.std.proofs.Common.{map}
-use Rattle.notation_parser.specs.View.{token}
+use Rattle.term_reader.specs.View.{token}
 use Rattle.derivation_text.proofs.NodeLemmas.{not_when}
 use Rattle.derivation_text.proofs.EndingLemmas.{no_comma, comma_front}
 use Rattle.derivation_text.proofs.arguments.after_comma.Goals as goal

@@ -1,6 +1,6 @@
 use Rattle.std.proofs.Common.{◌≡◌, ◌+◌, ◌++◌, List, map, drop, subst}
 use Rattle.proof_lexer.specs.declared.token.Token.{Token}
-use Rattle.notation_parser.specs.View.{token}
+use Rattle.term_reader.specs.View.{token}
 use Rattle.derivation_text.specs.Contents.{argument}
 use Rattle.derivation_text.specs.Ending.{Given, HasNoFront, IsFront, IsRest, HasNoRest}
 use Rattle.derivation_text.specs.declared.arguments.Argued.{Argued}

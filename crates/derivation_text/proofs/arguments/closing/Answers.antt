@@ -1,5 +1,5 @@
 use Rattle.std.proofs.Common.{map, arith}
-use Rattle.notation_parser.specs.View.{token}
+use Rattle.term_reader.specs.View.{token}
 use Rattle.derivation_text.proofs.EndingLemmas.{passes_next, passes_found, none_left}
 use Rattle.derivation_text.proofs.arguments.closing.Goals as goal
 

@@ -1,5 +1,5 @@
 use Rattle.std.proofs.Common.{◌≤◌, map, take, drop}
-use Rattle.notation_parser.specs.View.{token}
+use Rattle.term_reader.specs.View.{token}
 use Rattle.derivation_text.proofs.EndingLemmas.{Passes}
 use Rattle.derivation_text.proofs.arguments.closing.Given as goal
 

@@ -1,5 +1,5 @@
 use Rattle.std.proofs.Common.{map, take}
-use Rattle.notation_parser.specs.View.{token}
+use Rattle.term_reader.specs.View.{token}
 use Rattle.derivation_text.proofs.NodeLemmas.{empty_map, not_when}
 use Rattle.derivation_text.proofs.EndingLemmas.{no_front_form}
 use Rattle.derivation_text.proofs.arguments.enclosed.Goals as goal

@@ -1,7 +1,7 @@
 use Rattle.std.proofs.Common.{◌∷◌, map, drop, sym, subst}
 use Rattle.std.specs.Prelude.{IfOk, MatchOption}
 use Rattle.rule_schemes.specs.Reading.{Token}
-use Rattle.notation_parser.specs.View.{token}
+use Rattle.term_reader.specs.View.{token}
 use Rattle.derivation_text.specs.Contents.{argument}
 use Rattle.derivation_text.specs.Ending.{HasNoFront, IsFront}
 use Rattle.derivation_text.proofs.arguments.front_from.Goals as goal

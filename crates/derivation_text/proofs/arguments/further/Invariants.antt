@@ -1,5 +1,5 @@
 use Rattle.std.proofs.Common.{◌≤◌, ◌-◌, map, drop, length}
-use Rattle.notation_parser.specs.View.{token}
+use Rattle.term_reader.specs.View.{token}
 use Rattle.derivation_text.specs.Contents.{argument}
 use Rattle.derivation_text.proofs.EndingLemmas.{Gathers}
 use Rattle.derivation_text.proofs.arguments.further.Given as goal

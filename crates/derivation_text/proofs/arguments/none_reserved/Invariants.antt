@@ -1,5 +1,5 @@
 use Rattle.std.proofs.Common.{◌↔◌, map, drop}
-use Rattle.notation_parser.specs.View.{token}
+use Rattle.term_reader.specs.View.{token}
 use Rattle.derivation_text.specs.Ending.{NoneReserved}
 use Rattle.derivation_text.proofs.arguments.none_reserved.Given as goal
 

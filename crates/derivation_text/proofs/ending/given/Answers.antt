@@ -1,5 +1,5 @@
 use Rattle.std.proofs.Common.{◌∙◌, map, sym}
-use Rattle.notation_parser.specs.View.{token}
+use Rattle.term_reader.specs.View.{token}
 use Rattle.derivation_text.proofs.EndingLemmas.{is_given, no_given}
 use Rattle.derivation_text.proofs.ending.given.Goals as goal
 

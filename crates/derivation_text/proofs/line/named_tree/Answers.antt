@@ -1,7 +1,7 @@
 use Rattle.std.proofs.Common.{◌≡◌, ◌∙◌, List, ℕ, map, sym, subst}
 use Rattle.rule_schemes.specs.Derivation.{Derivation}
 use Rattle.rule_schemes.specs.View.{theory}
-use Rattle.notation_parser.specs.View.{token}
+use Rattle.term_reader.specs.View.{token}
 use Rattle.derivation_text.proofs.LineLemmas.{names_tree, no_tree_named, none_of, none_case, some_case}
 use Rattle.derivation_text.specs.Found.{IsPartsTree, HasNoPartsTree}
 use Rattle.derivation_text.specs.Valid.{tree_named}

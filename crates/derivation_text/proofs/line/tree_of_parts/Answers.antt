@@ -1,7 +1,7 @@
 use Rattle.std.proofs.Common.{◌≡◌, ◌∙◌, Some, map, option_map, sym, ap}
 use Rattle.rule_schemes.specs.View.{theory, judgment_value}
 use Rattle.rule_schemes.specs.declared.rule.JudgInst.{JudgInst}
-use Rattle.notation_parser.specs.View.{token}
+use Rattle.term_reader.specs.View.{token}
 use Rattle.derivation_text.specs.Found.{HasValue, HasNoJudgment, cited_trees}
 use Rattle.derivation_text.proofs.CitedLemmas.{cited_from, cited_derive}
 use Rattle.derivation_text.proofs.LineLemmas.{none_case, some_case, answer_map, value_judged, no_judgment_tree, no_parts_tree}

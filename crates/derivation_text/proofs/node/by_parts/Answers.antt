@@ -1,4 +1,4 @@
-use Rattle.notation_parser.specs.View.{token}
+use Rattle.term_reader.specs.View.{token}
 use Rattle.derivation_text.proofs.NodeLemmas.{no_parts_empty, no_parts_by, no_parts_rule, no_parts_name, empty_map, not_when}
 use Rattle.derivation_text.proofs.node.by_parts.Goals as goal
 

@@ -1,6 +1,6 @@
 use Rattle.std.proofs.Common.{IsFalse, map, take}
 use Rattle.std.specs.List.{AllByRecursion}
-use Rattle.notation_parser.specs.View.{token}
+use Rattle.term_reader.specs.View.{token}
 use Rattle.derivation_text.specs.Forms.{is_reserved_token}
 use Rattle.derivation_text.proofs.node.cut.Given as goal
 

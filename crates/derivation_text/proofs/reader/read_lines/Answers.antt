@@ -2,7 +2,7 @@ use Rattle.std.proofs.Common.{◌≡◌, ◌++◌, ◌+◌, length, List, [], �
 use Rattle.proof_lexer.specs.View.{token_view}
 use Rattle.proof_lexer.specs.declared.token.Token.{Token as Lexed}
 use Rattle.rule_schemes.specs.View.{theory}
-use Rattle.notation_parser.specs.View.{token}
+use Rattle.term_reader.specs.View.{token}
 use Rattle.derivation_text.specs.Contents.{contents, last_of}
 use Rattle.derivation_text.specs.Found.{AllDerive}
 use Rattle.derivation_text.specs.Lines.{text_lines}

@@ -1,15 +1,9 @@
-use Rattle.std.proofs.lemmas.Result.{IfOk-weaker}
-use Rattle.proof_check.proofs.RightFiles.{only_as, signature_there, signature_back}
+use Rattle.std.proofs.Common.{Err, ap, ◌∙◌}
+use Rattle.outline_reader.specs.Plain.{outlined}
 use Rattle.proof_check.proofs.file.parts_of.Goals as goal
 
-pub returns-in-Some : goal.returns-in-Some
-returns-in-Some c =
-    let told = rw c.in-Some.is at c.in_ok-sig.ensures in
-    IfOk-weaker _ _ _
-    (λ found is. only_as _ _ found (signature_there _ _) (signature_back _ _ c.signatures_are_unique.ensures told.0) is)
-    c.theory_of.ensures
-
-pub returns-in-None : goal.returns-in-None
-returns-in-None c =
-    let none = rw c.in-None.is at c.in_ok-sig.ensures in
-    λ th sts steps is. none th.sig is.0.signature is.1.theory.sig
+pub returns-in-Err-Refused : goal.returns-in-Err-Refused
+returns-in-Err-Refused c =
+    let fault = c.in-Err-Refused.field-0-0 in
+    let first = c.grammar.ensures.refused fault (c.in-Err-Refused.is ∙ ap Err c.in-Err-Refused.field-0-is) in
+    λ th sts steps is. c.faulty_files_have_no_signature.ensures (outlined c.args.outline.now) th.sig fault.code first.token fault.detail is.0.signature first.stands

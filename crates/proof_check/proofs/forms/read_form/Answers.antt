@@ -4,11 +4,18 @@ use Rattle.rule_schemes.specs.Said.{want_judgment}
 use Rattle.rule_schemes.specs.View.{judgment_scheme}
 use Rattle.scheme_terms.specs.View.{names, known_variable}
 use Rattle.notation_parser.specs.Answer.{IsAnswer}
-use Rattle.notation_parser.specs.View.{token, reading_scope, written, what_is_said}
+use Rattle.notation_parser.proofs.Readable.{plain_readable}
+use Rattle.term_reader.specs.View.{token}
+use Rattle.notation_parser.specs.View.{reading_scope, written, what_is_said}
 use Rattle.judgments.specs.Written.{ReadsOnlyAs}
 use Rattle.proof_check.specs.Finding.{Finds}
 use Rattle.proof_check.proofs.FormLemmas.{same_tokens, one_answered, no_reading, two_readings}
 use Rattle.proof_check.proofs.forms.read_form.Goals as goal
+
+pub read-requires : goal.read-requires
+read-requires c =
+    rw (c.sig.ensures, c.judgments.ensures)
+    (plain_readable c.args.sys.now.sig c.args.sys.now.judgments (reading_scope c.args.scope.now) want_judgment c.requires.plain)
 
 pub returns-in-One : goal.returns-in-One
 returns-in-One c =
