@@ -23,3 +23,5 @@ mod theorems;
 mod theories;
 #[cfg(test)]
 mod tokens;
+#[cfg(test)]
+mod written;

@@ -112,10 +112,10 @@ fn reading(
     tokens: &[Token<'_>],
 ) -> Result<Option<Reading>, NoMemory> {
     let scope = no_names(alloc);
-    if !is_plain(sig, judgments, &scope, want) {
-        return Ok(None);
+    if is_plain(sig, judgments, &scope, want) {
+        return Ok(Some(read(alloc, sig, judgments, &scope, want, tokens)?));
     }
-    Ok(Some(read(alloc, sig, judgments, &scope, want, tokens)?))
+    Ok(None)
 }
 
 fn leaf(alloc: Global) -> Scheme {
