@@ -10,10 +10,11 @@ mod splitting;
 mod variables;
 mod words;
 
+pub use brackets::bracket_splits;
 pub use chart::Chart;
 pub use firsts::{Firsts, extended, is_full, joined};
 pub use reading::{Head, bodies, in_splits, number, parts, terms};
 pub use sheet::Sheet;
 pub use splitting::{Piece, Split, splits};
-pub use variables::{Meaning, Var, scope_variables};
+pub use variables::{Meaning, Var, innermost, scope_variables, slot_scope};
 pub use words::{is_any_word, is_terminal, is_word};
