@@ -21,7 +21,7 @@ use Rattle.term_reader.specs.declared.sheet.Sheet.{Sheet}
 use Rattle.term_reader.proofs.Pieces.{words_of, split_from, read_split, known_own}
 use Rattle.term_reader.proofs.SplitLemmas.{all_both, all_weaker}
 use Rattle.term_reader.proofs.Usable.{usable_splits}
-use Rattle.notation_parser.specs.Shapes.{ReadsContextAt, ContextShape, named, empty, new_entry, entered, WrittenContext, shape_variables, ReadsInShape, IsUsable, IsScopeKnown}
+use Rattle.notation_parser.specs.Shapes.{ReadsContextAt, ContextShape, named, empty, new_entry, scope_entry, entered, WrittenContext, shape_variables, ReadsInShape, IsUsable, IsScopeKnown}
 use Rattle.notation_parser.specs.ContextCases.{IsEnteredAt, AreListed, first_variable, entry_of_split, crossed}
 use Rattle.notation_parser.proofs.ShapeLists.{Sound, no_shapes, all_crossed, contains_crossed, order_crossed}
 
@@ -71,6 +71,7 @@ known_shape sheet scope c named k u =
     known_root sheet scope.names.root c scope.vars (known_words sheet.sig.now 0 scope.names.knowns) k.0 k.1
 known_shape sheet scope c (empty p) k u = k.1
 known_shape sheet scope c (new_entry e) k u = (u.0.0, k.1)
+known_shape sheet scope c (scope_entry p n ps) k u = k.1
 known_shape sheet scope c (entered s e) k u = (u.1.0, known_shape sheet scope c s k u.0)
 
 one_of : (sheet : Sheet) (c p b : ℕ) (items : List Item) → IsEntryForm sheet.sig.now c p b items → binders items ≡ b ∷ []

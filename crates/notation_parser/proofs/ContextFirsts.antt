@@ -1,5 +1,6 @@
 -- The first two readings in a shape, entry by entry.
-use Rattle.std.proofs.Common.{◌≡◌, ◌↔◌, ℕ, suc, ◌+◌, List, [], ◌∷◌, ◌++◌, length, map, inl, inr, refl, ap, ◌∙◌, sym, arith}
+use Rattle.std.proofs.Common.{◌≡◌, ◌≢◌, ◌⊎◌, ◌↔◌, ℕ, suc, ◌+◌, List, [], ◌∷◌, ◌++◌, length, map, inl, inr, refl, ap, ◌∙◌, sym, subst, arith, Bool, true, false, not, Option, Some, None, slice_get}
+use Rattle.std.specs.Option.{is_some}
 use Rattle.binding_terms.specs.Signature.{Signature}
 use Rattle.binding_terms.specs.declared.grammar.CatId.{CatId}
 use Rattle.scheme_terms.specs.SchemeTree.{SchemeTree, Parts, no_parts, part}
@@ -8,10 +9,11 @@ use Rattle.scheme_terms.specs.declared.scheme.MetaDecl.{MetaDecl}
 use Rattle.scheme_terms.specs.declared.scheme.Root.TheVariants.{Whole, Empty}
 use Rattle.rule_schemes.specs.Reading.{Token, Variable, ReadingScope, known_words, bare}
 use Rattle.rule_schemes.specs.Said.{Way, way, Ways, no_ways, then_way, IsBefore, AreBefore}
-use Rattle.term_reader.specs.Firsts.{AreFirst, paired}
+use Rattle.term_reader.specs.Firsts.{IsLeast, AreFirst, paired}
 use Rattle.term_reader.specs.Splitting.{SlotRange, lengths, ReadsPieces, IsMapped}
 use Rattle.term_reader.proofs.Finding.{AreFirst-same, AreFirst-map, IsPair, AreFirst-paired}
-use Rattle.notation_parser.specs.Shapes.{ContextShape, EntryShape, named, empty, new_entry, entered, shape_variables, WrittenContext, with_entry, new_context, ReadsInShape}
+use Rattle.reading_places.specs.First.{IsFirstPlace, ReadPiecesAs}
+use Rattle.notation_parser.specs.Shapes.{ContextShape, EntryShape, named, empty, new_entry, scope_entry, entered, shape_variables, WrittenContext, with_entry, new_context, whole_with, ReadsInShape}
 
 -- lists with one more at the end are the same only with the same end
 last_apart : {X : Type 0} (xs ys : List X) (x y : X) → xs ++ x ∷ [] ≡ ys ++ y ∷ [] → (xs ≡ ys) × (x ≡ y)
@@ -74,6 +76,57 @@ module _ (sig : Signature) (scope : ReadingScope) (metas : List MetaDecl) (ts : 
       first_args : List KnownVariable → List SchemeTree
       first_args [] = []
       first_args (k ∷ ks) = k.entry.args
+
+  -- the known variable of the scope, where the slots read as its entry
+  module _ (p n : ℕ) (ps : List SlotRange) where
+    abbrev InScopeEntry : Way → WrittenContext → Type 0
+    InScopeEntry = ReadsInShape sig scope metas ts c (scope_entry p n ps)
+
+    abbrev ReadAs : List SchemeTree → Ways → Parts → Type 0
+    ReadAs args = ReadPiecesAs sig metas ts (known_words sig 0 scope.names.knowns) [] ps args
+
+    same_known : (k l : KnownVariable) → slice_get scope.names.knowns n ≡ Some k → slice_get scope.names.knowns n ≡ Some l → l ≡ k
+    same_known k l e f = let two : Some l ≡ Some k = sym f ∙ e in cc
+
+    same_args : (k l : KnownVariable) (xs : Parts) → l ≡ k → l.entry ≡ record { prod = p; args = bare xs } → bare xs ≡ k.entry.args
+    same_args k l xs e h = sym (ap (λ (x : SchemeEntry). x.args) h) ∙ ap (λ (x : KnownVariable). x.entry.args) e
+
+    pub no_known : slice_get scope.names.knowns n ≡ None → AreFirst IsBefore InScopeEntry []
+    no_known none w x r = let two : Some (r.2) ≡ None = sym r.5 ∙ none in cc
+
+    pub other_entry : (k : KnownVariable) → slice_get scope.names.knowns n ≡ Some k → k.entry.prod ≢ p → AreFirst IsBefore InScopeEntry []
+    other_entry k e other w x r =
+        other (ap (λ (l : KnownVariable). l.entry.prod) (sym (same_known k r.2 e r.5)) ∙ ap (λ (y : SchemeEntry). y.prod) r.6)
+
+    pub not_read : (k : KnownVariable) → slice_get scope.names.knowns n ≡ Some k → ((ws : Ways) (xs : Parts) → ReadAs k.entry.args ws xs → ⊥) → AreFirst IsBefore InScopeEntry []
+    not_read k e h w x r = h r.0 r.1 (r.7, same_args k r.2 r.1 (same_known k r.2 e r.5) r.6)
+
+    pub first_scope : (k : KnownVariable) (vs : Ways) (xs : Parts) → slice_get scope.names.knowns n ≡ Some k → k.entry.prod ≡ p → IsLeast AreBefore (ReadAs k.entry.args) vs xs
+        → AreFirst IsBefore InScopeEntry (whole_with c k ∷ [])
+    first_scope k vs xs e by h =
+        ((place, ((vs, xs, k, refl, refl, e, entry_is, h.0.0), λ l x r. least l x r)), λ l x r. only x r.2 r.4 r.5)
+      where
+        place : Way
+        place = way (1 + (length sig.prods + p)) (lengths ps) vs
+
+        entry_is : k.entry ≡ record { prod = p; args = bare xs }
+        entry_is = λ i. record { prod = by i; args = sym h.0.1 i }
+
+        only : (x : WrittenContext) (l : KnownVariable) → x ≡ whole_with c l → slice_get scope.names.knowns n ≡ Some l → x ≡ whole_with c k
+        only x l is f = is ∙ ap (whole_with c) (same_known k l e f)
+
+        least : (l : Way) (x : WrittenContext) → InScopeEntry l x → IsBefore place l ⊎ ((place ≡ l) × (x ≡ whole_with c k))
+        least l x r = go (h.1 r.0 r.1 (r.7, same_args k r.2 r.1 (same_known k r.2 e r.5) r.6))
+          where
+            go : AreBefore vs r.0 ⊎ ((vs ≡ r.0) × (r.1 ≡ xs)) → IsBefore place l ⊎ ((place ≡ l) × (x ≡ whole_with c k))
+            go (inl b) = inl (subst (IsBefore place) (sym r.3) (inr (refl, inr (refl, b))))
+            go (inr b) = inr (ap (way (1 + (length sig.prods + p)) (lengths ps)) b.0 ∙ sym r.3, only x r.2 r.4 r.5)
+
+    -- by the first place at which the slots so read
+    pub scope_found : {L : Type 0} (to : L → Ways) (found : Option L) (none : Bool) (k : KnownVariable) → is_some found ≡ not none → none ≡ false
+        → slice_get scope.names.knowns n ≡ Some k → k.entry.prod ≡ p → IsFirstPlace AreBefore (ReadAs k.entry.args) to found → AreFirst IsBefore InScopeEntry (whole_with c k ∷ [])
+    scope_found to None none k is off e by h = absurd (let never : false ≡ true = is ∙ ap not off in cc)
+    scope_found to (Some l) none k is off e by h = first_scope k (to l) h.0 e by h.1
 
   -- each reading before an entry, with each reading of its slots
   pub first_entered : (s : ContextShape) (e : EntryShape) (xs : List WrittenContext) (ys : List Parts) → AreFirst IsBefore (ReadsInShape sig scope metas ts c s) xs

@@ -1,4 +1,4 @@
--- The readings of a context by their cases: its category's name, an empty form, an entry after a shorter context.
+-- The readings of a context by their cases: its category's name, an empty form, an entry after a shorter context, a known variable.
 use Rattle.std.proofs.Common.{◌≡◌, ◌≢◌, ◌⊎◌, ◌↔◌, ℕ, ◌+◌, ◌-◌, ◌<◌, ◌≤◌, IsTrue, List, [], ◌∷◌, ◌++◌, length, drop, inl, inr, refl, ap, ◌∙◌, sym, subst, arith, Option, Some, None, MatchOption, slice_get, slice_range}
 use Rattle.std.proofs.lemmas.Bool.{cases_lt}
 use Rattle.std.proofs.lemmas.Option.{slice_get_within}
@@ -16,8 +16,8 @@ use Rattle.rule_schemes.specs.Said.{Way, way, Ways, no_ways, then_way, IsBefore,
 use Rattle.term_reader.specs.Splitting.{bound_variable}
 use Rattle.term_reader.specs.Ordered.{ReadsItemsAt}
 use Rattle.term_reader.proofs.Ranges.{range_length, range_cons, range_begins, range_two, range_front}
-use Rattle.notation_parser.specs.Shapes.{ReadsContextAt, WritesNoKnown}
-use Rattle.notation_parser.specs.ContextCases.{IsNamed, IsEmptyOf, BeginsWith, IsEntryOver, IsEnteredAt, IsEnteredBelow, IsContextBy, IsContextBelow, IsNewEntryOf, IsNewBy, IsNewBelow, BeginsNewly}
+use Rattle.notation_parser.specs.Shapes.{ReadsContextAt}
+use Rattle.notation_parser.specs.ContextCases.{IsNamed, IsEmptyOf, BeginsWith, IsEntryOver, IsEnteredAt, IsEnteredBelow, IsContextBy, IsContextBelow, IsNewEntryOf, IsScopeEntryOf, IsKnownEntryOf, IsKnownBy, IsKnownBelow, BeginsNewly}
 use Rattle.notation_parser.proofs.ShapeLists.{before_at}
 
 some_of : {A : Type 0} (o : Option A) (P : A → Type 0) → MatchOption o ⊥ P → (x : A) × (o ≡ Some x) × P x
@@ -102,29 +102,61 @@ module _ (sig : Signature) (scope : ReadingScope) (metas : List MetaDecl) (c : C
   by_read p w ctx vars ks (prod, found, cat, inr h) = entered_read p prod h.1.0 w ctx vars ks found cat h.0 h.1.1 h.1.2 h.1.3
 
   abbrev Cases : ℕ → ℕ → Way → SchemeContext → List Variable → List KnownVariable → Type 0
-  Cases n m w ctx vars ks = IsContextBelow n sig scope metas c ts from to w ctx vars ks ⊎ IsNewBelow m sig scope metas c ts from to w ctx vars ks
+  Cases n m w ctx vars ks = IsContextBelow n sig scope metas c ts from to w ctx vars ks ⊎ IsKnownBelow m sig scope metas c ts from to w ctx vars ks
 
-  new_read : (m : ℕ) (w : Way) (ctx : SchemeContext) (vars : List Variable) (ks : List KnownVariable) → IsNewBelow m sig scope metas c ts from to w ctx vars ks → Reads w ctx vars ks
-  new_read m w ctx vars ks (p, lt, head, begun, (prod, found, cat, over, h)) =
-      let begin = begun.0 in
-      let b = begins c.0 prod.items over.0 in
-      let form : IsEntryForm sig c.0 p h.cat (drop 1 prod.items) =
-      matched (λ (q : Prod). (q.cat.0 ≡ c.0) × ((id : CatId) × (binds : List ℕ) × (q.items ≡ Slot id binds ∷ drop 1 prod.items) × (id.0 ≡ c.0)) × (binders (drop 1 prod.items) ≡ h.cat ∷ []))
-      (slice_get sig.prods p) prod found (cat, (b.0, b.1, b.2, b.3), h.binder_is) in
-      let whole : us ≡ word begun.1 ∷ slice_range ts (from + 1) to = range_cons ts from to (word begun.1) begin within begun.2 in
-      let read = head_entry head whole begun.3 refl form h.entry.0 h.number_is in
+  -- an entry behind a spelling of the category, which is a token of its own
+  entry_form : (p : ℕ) (prod : Prod) (b : ℕ) → slice_get sig.prods p ≡ Some prod → prod.cat.0 ≡ c.0 → IsEntryOver c.0 prod.items → binders (drop 1 prod.items) ≡ b ∷ []
+      → IsEntryForm sig c.0 p b (drop 1 prod.items)
+  entry_form p prod b found cat over one =
+      let s = begins c.0 prod.items over.0 in
+      matched (λ (q : Prod). (q.cat.0 ≡ c.0) × ((id : CatId) × (binds : List ℕ) × (q.items ≡ Slot id binds ∷ drop 1 prod.items) × (id.0 ≡ c.0)) × (binders (drop 1 prod.items) ≡ b ∷ []))
+      (slice_get sig.prods p) prod found (cat, (s.0, s.1, s.2, s.3), one)
+
+  spelled_first : (h : BeginsNewly sig c.0 ts from to) → us ≡ word h.1 ∷ slice_range ts (from + 1) to
+  spelled_first h = let begin = h.0 in range_cons ts from to (word h.1) begin within h.2
+
+  head_read : (p : ℕ) (prod : Prod) (w : Way) (ctx : SchemeContext) (vars : List Variable) (ks : List KnownVariable) → scope.fresh ≡ fresh_head → BeginsNewly sig c.0 ts from to
+      → slice_get sig.prods p ≡ Some prod → prod.cat.0 ≡ c.0 → IsEntryOver c.0 prod.items → IsNewEntryOf sig scope metas c ts from to p (drop 1 prod.items) w ctx vars ks
+      → Reads w ctx vars ks
+  head_read p prod w ctx vars ks head begun found cat over h =
+      let read = head_entry head (spelled_first begun) begun.3 refl (entry_form p prod h.cat found cat over h.binder_is) h.entry.0 h.number_is in
       let way_is : way_of_context read ≡ way (1 + (length sig.prods + p)) h.lengths h.ways =
       ap (λ ls. way (1 + (length sig.prods + p)) ls (ways_of_items h.entry.0)) h.entry.1 ∙ ap (way (1 + (length sig.prods + p)) h.lengths) h.entry.2 in
       moved us us (way_of_context read) w (record { root = Whole c; entries = [] }) ctx
       (record { word = h.name; cat = h.cat; means = entry_of h.known } ∷ known_words sig 0 scope.names.knowns) vars
       (record { name = h.name; entry = record { prod = p; args = bare h.parts } } ∷ []) ks refl (h.way_is ∙ sym way_is) h.context_is h.vars_are h.knowns_are (read, refl)
 
-  -- each reading is one of these, where no known variable of the scope is written
-  cases_of : WritesNoKnown scope → {tokens : List Token} {ctx : SchemeContext} {vars : List Variable} {ks : List KnownVariable} → (r : ReadsContext sig scope metas c.0 tokens ctx vars ks)
+  scope_read : (p : ℕ) (prod : Prod) (w : Way) (ctx : SchemeContext) (vars : List Variable) (ks : List KnownVariable) → scope.fresh ≢ fresh_head → BeginsNewly sig c.0 ts from to
+      → slice_get sig.prods p ≡ Some prod → prod.cat.0 ≡ c.0 → IsEntryOver c.0 prod.items → IsScopeEntryOf sig scope metas c ts from to p (drop 1 prod.items) w ctx vars ks
+      → Reads w ctx vars ks
+  scope_read p prod w ctx vars ks other begun found cat over h =
+      let read = known_entry p h.cat h.place other (spelled_first begun) begun.3 refl (entry_form p prod h.cat found cat over h.binder_is) h.entry.0 h.here refl h.entry_is in
+      let way_is : way_of_context read ≡ way (1 + (length sig.prods + p)) h.lengths h.ways =
+      ap (λ ls. way (1 + (length sig.prods + p)) ls (ways_of_items h.entry.0)) h.entry.1 ∙ ap (way (1 + (length sig.prods + p)) h.lengths) h.entry.2 in
+      moved us us (way_of_context read) w (record { root = Whole c; entries = [] }) ctx (known_words sig 0 scope.names.knowns) vars
+      (h.variable ∷ []) ks refl (h.way_is ∙ sym way_is) h.context_is h.vars_are h.knowns_are (read, refl)
+
+  known_read : (m : ℕ) (w : Way) (ctx : SchemeContext) (vars : List Variable) (ks : List KnownVariable) → IsKnownBelow m sig scope metas c ts from to w ctx vars ks → Reads w ctx vars ks
+  known_read m w ctx vars ks (p, lt, begun, (prod, found, cat, over, inl h)) = head_read p prod w ctx vars ks h.0 begun found cat over h.1
+  known_read m w ctx vars ks (p, lt, begun, (prod, found, cat, over, inr h)) = scope_read p prod w ctx vars ks h.0 begun found cat over h.1
+
+  -- the production of an entry form
+  abbrev EntryProd : (p b : ℕ) → List Item → Type 0
+  EntryProd p b items = (q : Prod) × (slice_get sig.prods p ≡ Some q) × (q.cat.0 ≡ c.0) × IsEntryOver c.0 q.items × (drop 1 q.items ≡ items) × (binders items ≡ b ∷ [])
+
+  entry_of_form : (p b : ℕ) (items : List Item) → IsEntryForm sig c.0 p b items → EntryProd p b items
+  entry_of_form p b items form =
+      let q = some_of (slice_get sig.prods p) _ form in
+      let items_are : drop 1 q.0.items ≡ items = ap (drop 1) (q.2.1).2 in
+      let over : IsEntryOver c.0 q.0.items = (subst (BeginsWith c.0) (sym (q.2.1).2) (q.2.1).3, ap (λ xs. length (binders xs)) items_are ∙ ap length q.2.2) in
+      (q.0, q.1, q.2.0, over, items_are, q.2.2)
+
+  -- each reading is one of these
+  cases_of : {tokens : List Token} {ctx : SchemeContext} {vars : List Variable} {ks : List KnownVariable} → (r : ReadsContext sig scope metas c.0 tokens ctx vars ks)
       → us ≡ tokens → Cases (length sig.prods) (length sig.prods) (way_of_context r) ctx vars ks
-  cases_of writes (root {w = w} {id = id} e same) f =
+  cases_of (root {w = w} {id = id} e same) f =
       inl (inl (refl, ap (λ (d : CatId). record { root = Whole d; entries = [] }) (same_cat id c same), refl, refl, (w, f, e)))
-  cases_of writes (empty_form p {prod = prod} {id = id} found cat same is r) f =
+  cases_of (empty_form p {prod = prod} {id = id} found cat same is r) f =
       inl (inr (
         p,
         slice_get_within sig.prods p prod found,
@@ -135,7 +167,7 @@ module _ (sig : Signature) (scope : ReadingScope) (metas : List MetaDecl) (c : C
           inl (is, (refl, ap (λ (d : CatId). record { root = Empty d; entries = [] }) (same_cat id c same), refl, refl, subst (λ ys. ReadsItems sig metas [] [] [] prod.items ys no_parts) (sym f) r)),
         ),
       ))
-  cases_of writes (entry p {b = b} {items = items} {first = first} {rest = rest} {w = name} {xs = xs} {ctx = ctx} {vars = vars} {written = written} form split r ri) f =
+  cases_of (entry p {b = b} {items = items} {first = first} {rest = rest} {w = name} {xs = xs} {ctx = ctx} {vars = vars} {written = written} form split r ri) f =
       let q = some_of (slice_get sig.prods p) _ form in
       let d = range_front ts from to first rest start within (f ∙ split) in
       let items_are : drop 1 q.0.items ≡ items = ap (drop 1) (q.2.1).2 in
@@ -179,17 +211,50 @@ module _ (sig : Signature) (scope : ReadingScope) (metas : List MetaDecl) (c : C
           ),
         ),
       ))
-  cases_of writes (known_entry p b n {k = k} f e h same form r found name is) g =
-      absurd (no_known scope.names.knowns n k (writes.0 f) found)
-    where
-      no_known : (knowns : List KnownVariable) (n : ℕ) (k : KnownVariable) → knowns ≡ [] → slice_get knowns n ≡ Some k → ⊥
-      no_known [] n k e f = cc
-      no_known (x ∷ knowns) n k e f = cc
-  cases_of writes (head_entry {p = p} {b = b} {n = n} {items = items} {rest = rest} {spelled = spelled} {w = name} {xs = xs} {id = id} f e h same form r number) g =
-      let q = some_of (slice_get sig.prods p) _ form in
+  cases_of (known_entry p b n {items = items} {rest = rest} {spelled = spelled} {w = name} {xs = xs} {id = id} {k = k} f e h same form r found named is) g =
+      let q = entry_of_form p b items form in
       let d = range_begins ts from to (word spelled) rest start within (sym e ∙ sym g) in
-      let items_are : drop 1 q.0.items ≡ items = ap (drop 1) (q.2.1).2 in
-      let over : IsEntryOver c.0 q.0.items = (subst (BeginsWith c.0) (sym (q.2.1).2) (q.2.1).3, ap (λ xs. length (binders xs)) items_are ∙ ap length q.2.2) in
+      let knowns = known_words sig 0 scope.names.knowns in
+      let read : ReadsItemsAt sig metas knowns [] (k.name ∷ []) items (slice_range ts (from + 1) to) (item_lengths r) (ways_of_items r) xs =
+      subst (λ ys. ReadsItemsAt sig metas knowns [] (k.name ∷ []) items ys (item_lengths r) (ways_of_items r) xs) d.2
+      (subst (λ w. ReadsItemsAt sig metas knowns [] (w ∷ []) items rest (item_lengths r) (ways_of_items r) xs) (sym named) (r, refl, refl)) in
+      let entry_is : IsScopeEntryOf sig scope metas c ts from to p items (way (1 + (length sig.prods + p)) (item_lengths r) (ways_of_items r)) (record { root = Whole id; entries = [] })
+      knowns (k ∷ []) =
+      record {
+        lengths = item_lengths r;
+        ways = ways_of_items r;
+        cat = b;
+        place = n;
+        variable = k;
+        parts = xs;
+        way_is = refl;
+        context_is = ap (λ (d : CatId). record { root = Whole d; entries = [] }) (same_cat id c same);
+        knowns_are = refl;
+        vars_are = refl;
+        binder_is = q.5;
+        here = found;
+        entry_is = is;
+        entry = read;
+      } in
+      inr (
+        p,
+        slice_get_within sig.prods p q.0 q.1,
+        (d.0, spelled, d.1, h),
+        (
+          q.0,
+          q.1,
+          q.2,
+          q.3,
+          inr (
+            f,
+            subst (λ ys. IsScopeEntryOf sig scope metas c ts from to p ys (way (1 + (length sig.prods + p)) (item_lengths r) (ways_of_items r)) (record { root = Whole id; entries = [] })
+                knowns (k ∷ [])) (sym q.4) entry_is,
+          ),
+        ),
+      )
+  cases_of (head_entry {p = p} {b = b} {n = n} {items = items} {rest = rest} {spelled = spelled} {w = name} {xs = xs} {id = id} f e h same form r number) g =
+      let q = entry_of_form p b items form in
+      let d = range_begins ts from to (word spelled) rest start within (sym e ∙ sym g) in
       let knowns = known_words sig 0 scope.names.knowns in
       let entry_is : IsNewEntryOf sig scope metas c ts from to p items (way (1 + (length sig.prods + p)) (item_lengths r) (ways_of_items r)) (record { root = Whole id; entries = [] })
       (record { word = name; cat = b; means = entry_of n } ∷ knowns) (record { name = name; entry = record { prod = p; args = bare xs } } ∷ []) =
@@ -204,33 +269,35 @@ module _ (sig : Signature) (scope : ReadingScope) (metas : List MetaDecl) (c : C
         context_is = ap (λ (d : CatId). record { root = Whole d; entries = [] }) (same_cat id c same);
         knowns_are = refl;
         vars_are = refl;
-        binder_is = q.2.2;
+        binder_is = q.5;
         number_is = number;
         entry = subst (λ ys. ReadsItemsAt sig metas knowns [] (name ∷ []) items ys (item_lengths r) (ways_of_items r) xs) d.2 (r, refl, refl);
       } in
       inr (
         p,
         slice_get_within sig.prods p q.0 q.1,
-        f,
         (d.0, spelled, d.1, h),
         (
           q.0,
           q.1,
-          q.2.0,
-          over,
-          subst (λ ys. IsNewEntryOf sig scope metas c ts from to p ys (way (1 + (length sig.prods + p)) (item_lengths r) (ways_of_items r)) (record { root = Whole id; entries = [] })
-              (record { word = name; cat = b; means = entry_of n } ∷ knowns) (record { name = name; entry = record { prod = p; args = bare xs } } ∷ [])) (sym items_are) entry_is,
+          q.2,
+          q.3,
+          inl (
+            f,
+            subst (λ ys. IsNewEntryOf sig scope metas c ts from to p ys (way (1 + (length sig.prods + p)) (item_lengths r) (ways_of_items r)) (record { root = Whole id; entries = [] })
+                (record { word = name; cat = b; means = entry_of n } ∷ knowns) (record { name = name; entry = record { prod = p; args = bare xs } } ∷ [])) (sym q.4) entry_is,
+          ),
         ),
       )
 
-  pub all_contexts : (n : ℕ) → length sig.prods ≤ n → WritesNoKnown scope → (w : Way) (ctx : SchemeContext) (vars : List Variable) (ks : List KnownVariable)
+  pub all_contexts : (n : ℕ) → length sig.prods ≤ n → (w : Way) (ctx : SchemeContext) (vars : List Variable) (ks : List KnownVariable)
       → Cases n (length sig.prods) w ctx vars ks ↔ Reads w ctx vars ks
-  all_contexts n le writes w ctx vars ks = (there, λ r. subst (λ v. Cases n (length sig.prods) v ctx vars ks) r.1 (higher (cases_of writes r.0 refl)))
+  all_contexts n le w ctx vars ks = (there, λ r. subst (λ v. Cases n (length sig.prods) v ctx vars ks) r.1 (higher (cases_of r.0 refl)))
     where
       there : Cases n (length sig.prods) w ctx vars ks → Reads w ctx vars ks
       there (inl (inl h)) = named_read w ctx vars ks h
       there (inl (inr h)) = by_read h.0 w ctx vars ks h.2
-      there (inr h) = new_read (length sig.prods) w ctx vars ks h
+      there (inr h) = known_read (length sig.prods) w ctx vars ks h
 
       higher : {v : Way} → Cases (length sig.prods) (length sig.prods) v ctx vars ks → Cases n (length sig.prods) v ctx vars ks
       higher (inl (inl h)) = inl (inl h)
@@ -274,34 +341,44 @@ module _ (sig : Signature) (scope : ReadingScope) (metas : List MetaDecl) (c : C
               let same : h.0 ≡ n = omega (arith, h.1, le) in
               inr (subst (λ m. IsContextBy sig scope metas c ts from to m w ctx vars ks) same h.2)
 
+  -- the place of a reading with a known variable's entry
+  way_known : (p : ℕ) (items : List Item) (w : Way) (ctx : SchemeContext) (vars : List Variable) (ks : List KnownVariable) → IsKnownEntryOf sig scope metas c ts from to p items w ctx vars ks
+      → (ls : List ℕ) × (vs : Ways) × (w ≡ way (1 + (length sig.prods + p)) ls vs)
+  way_known p items w ctx vars ks (inl h) = (h.1.lengths, h.1.ways, h.1.way_is)
+  way_known p items w ctx vars ks (inr h) = (h.1.lengths, h.1.ways, h.1.way_is)
+
   -- those that write a known variable stand last
-  pub new_last_of_all : (n m : ℕ) (v w : Way) (a b : SchemeContext) (xs ys : List Variable) (ks ls : List KnownVariable)
-      → IsContextBelow n sig scope metas c ts from to v a xs ks → IsNewBelow m sig scope metas c ts from to w b ys ls → IsBefore v w
-  new_last_of_all n m v w a b xs ys ks ls (inl h) g =
-      before_at v w (way 0 [] no_ways) _ h.0 ((g.4).4).way_is (inl (omega arith))
-  new_last_of_all n m v w a b xs ys ks ls (inr h) g =
+  pub known_last_of_all : (n m : ℕ) (v w : Way) (a b : SchemeContext) (xs ys : List Variable) (ks ls : List KnownVariable)
+      → IsContextBelow n sig scope metas c ts from to v a xs ks → IsKnownBelow m sig scope metas c ts from to w b ys ls → IsBefore v w
+  known_last_of_all n m v w a b xs ys ks ls (inl h) g =
+      let last = way_known g.0 _ w b ys ls (g.3).4 in before_at v w (way 0 [] no_ways) _ h.0 last.2 (inl (omega arith))
+  known_last_of_all n m v w a b xs ys ks ls (inr h) g =
       let sooner = way_by h.0 v a xs ks h.2 in
+      let last = way_known g.0 _ w b ys ls (g.3).4 in
       let lt = slice_get_within sig.prods h.0 (h.2).0 (h.2).1 in
-      before_at v w (way (1 + h.0) sooner.0 sooner.1) _ sooner.2 ((g.4).4).way_is (inl (omega (arith, lt)))
+      before_at v w (way (1 + h.0) sooner.0 sooner.1) _ sooner.2 last.2 (inl (omega (arith, lt)))
 
-  pub new_apart : (n : ℕ) (v w : Way) (a b : SchemeContext) (xs ys : List Variable) (ks ls : List KnownVariable)
-      → IsNewBelow n sig scope metas c ts from to v a xs ks → IsNewBy sig scope metas c ts from to n w b ys ls → IsBefore v w
-  new_apart n v w a b xs ys ks ls h g = before_at v w _ _ ((h.4).4).way_is (g.4).way_is (inl (omega (arith, h.1)))
+  pub known_apart : (n : ℕ) (v w : Way) (a b : SchemeContext) (xs ys : List Variable) (ks ls : List KnownVariable)
+      → IsKnownBelow n sig scope metas c ts from to v a xs ks → IsKnownBy sig scope metas c ts from to n w b ys ls → IsBefore v w
+  known_apart n v w a b xs ys ks ls h g =
+      let sooner = way_known h.0 _ v a xs ks (h.3).4 in
+      let later = way_known n _ w b ys ls g.4 in
+      before_at v w _ _ sooner.2 later.2 (inl (omega (arith, h.1)))
 
-  pub one_new_more : (n : ℕ) → scope.fresh ≡ fresh_head → BeginsNewly sig c.0 ts from to → (w : Way) (ctx : SchemeContext) (vars : List Variable) (ks : List KnownVariable)
-      → (IsNewBelow n sig scope metas c ts from to w ctx vars ks ⊎ IsNewBy sig scope metas c ts from to n w ctx vars ks) ↔ IsNewBelow (n + 1) sig scope metas c ts from to w ctx vars ks
-  one_new_more n head begun w ctx vars ks = (there, λ h. back h (cases_lt h.0 n))
+  pub one_known_more : (n : ℕ) → BeginsNewly sig c.0 ts from to → (w : Way) (ctx : SchemeContext) (vars : List Variable) (ks : List KnownVariable)
+      → (IsKnownBelow n sig scope metas c ts from to w ctx vars ks ⊎ IsKnownBy sig scope metas c ts from to n w ctx vars ks) ↔ IsKnownBelow (n + 1) sig scope metas c ts from to w ctx vars ks
+  one_known_more n begun w ctx vars ks = (there, λ h. back h (cases_lt h.0 n))
     where
-      there : IsNewBelow n sig scope metas c ts from to w ctx vars ks ⊎ IsNewBy sig scope metas c ts from to n w ctx vars ks → IsNewBelow (n + 1) sig scope metas c ts from to w ctx vars ks
-      there (inl h) = (h.0, omega (arith, h.1), h.2, h.3, h.4)
-      there (inr h) = (n, omega arith, head, begun, h)
+      there : IsKnownBelow n sig scope metas c ts from to w ctx vars ks ⊎ IsKnownBy sig scope metas c ts from to n w ctx vars ks → IsKnownBelow (n + 1) sig scope metas c ts from to w ctx vars ks
+      there (inl h) = (h.0, omega (arith, h.1), h.2, h.3)
+      there (inr h) = (n, omega arith, begun, h)
 
-      back : (h : IsNewBelow (n + 1) sig scope metas c ts from to w ctx vars ks) → (h.0 < n) ⊎ (n ≤ h.0)
-          → IsNewBelow n sig scope metas c ts from to w ctx vars ks ⊎ IsNewBy sig scope metas c ts from to n w ctx vars ks
-      back h (inl lt) = inl (h.0, lt, h.2, h.3, h.4)
+      back : (h : IsKnownBelow (n + 1) sig scope metas c ts from to w ctx vars ks) → (h.0 < n) ⊎ (n ≤ h.0)
+          → IsKnownBelow n sig scope metas c ts from to w ctx vars ks ⊎ IsKnownBy sig scope metas c ts from to n w ctx vars ks
+      back h (inl lt) = inl (h.0, lt, h.2, h.3)
       back h (inr le) =
           let same : h.0 ≡ n = omega (arith, h.1, le) in
-          inr (subst (λ m. IsNewBy sig scope metas c ts from to m w ctx vars ks) same h.4)
+          inr (subst (λ m. IsKnownBy sig scope metas c ts from to m w ctx vars ks) same h.3)
 
   -- entries that begin at different places
   module _ (p : ℕ) (items : List Item) where

@@ -1,20 +1,20 @@
 -- The shapes of contexts, listed place by place and production by production.
-use Rattle.std.proofs.Common.{◌≡◌, ◌⊎◌, ℕ, ◌+◌, ◌≤◌, List, [], ◌++◌, length, map, inl, inr, sym, subst, arith, slice_range}
+use Rattle.std.proofs.Common.{◌⊎◌, ℕ, ◌+◌, ◌≤◌, List, [], ◌++◌, length, map, inl, inr, sym, subst, arith, slice_range}
 use Rattle.std.proofs.lemmas.List.{map-append}
 use Rattle.std.proofs.lemmas.Option.{slice_get_within}
 use Rattle.binding_terms.specs.declared.grammar.CatId.{CatId}
 use Rattle.binding_terms.specs.declared.grammar.Item.{Item}
 use Rattle.scheme_terms.specs.Forms.{SchemeContext, KnownVariable}
-use Rattle.rule_schemes.specs.Reading.{Variable, ReadingScope, fresh_head}
+use Rattle.rule_schemes.specs.Reading.{Variable, ReadingScope}
 use Rattle.rule_schemes.specs.Said.{Way, IsBefore}
 use Rattle.term_reader.specs.Splitting.{tokens_of}
 use Rattle.term_reader.specs.declared.sheet.Sheet.{Sheet}
 use Rattle.term_reader.proofs.SplitLemmas.{all_both}
-use Rattle.notation_parser.specs.Shapes.{ContextShape, context_shape, IsUsable, WritesNoKnown, ReadsContextAt}
-use Rattle.notation_parser.specs.ContextCases.{IsNamed, IsEnteredAt, IsEnteredBelow, IsContextBy, IsContextBelow, IsNewBy, IsNewBelow, BeginsNewly, AreListed}
+use Rattle.notation_parser.specs.Shapes.{ContextShape, context_shape, IsUsable, ReadsContextAt}
+use Rattle.notation_parser.specs.ContextCases.{IsNamed, IsEnteredAt, IsEnteredBelow, IsContextBy, IsContextBelow, IsKnownBy, IsKnownBelow, BeginsNewly, AreListed}
 use Rattle.notation_parser.specs.declared.shaping.Shape.{Shape}
 use Rattle.notation_parser.proofs.ContextBeginnings.{nothing_listed, same_listed}
-use Rattle.notation_parser.proofs.ContextReadings.{all_contexts, contexts_apart, one_context_more, entries_apart, one_entry_more, new_last_of_all, new_apart, one_new_more}
+use Rattle.notation_parser.proofs.ContextReadings.{all_contexts, contexts_apart, one_context_more, entries_apart, one_entry_more, known_last_of_all, known_apart, one_known_more}
 use Rattle.notation_parser.proofs.ShapeLists.{joined_shapes}
 
 module _ (sheet : Sheet) (scope : ReadingScope) (c : CatId) where
@@ -69,39 +69,39 @@ module _ (sheet : Sheet) (scope : ReadingScope) (c : CatId) where
         (listed_append (Below n) (By n) xs ys
         (λ v w a b vs us ks ls. contexts_apart sheet.sig.now scope sheet.metas.now c (tokens_of sheet) from to start within n v w a b vs us ks ls) f g)
 
-    abbrev NewBelow : ℕ → Way → SchemeContext → List Variable → List KnownVariable → Type 0
-    NewBelow n = IsNewBelow n sheet.sig.now scope sheet.metas.now c (tokens_of sheet) from to
+    abbrev KnownBelow : ℕ → Way → SchemeContext → List Variable → List KnownVariable → Type 0
+    KnownBelow n = IsKnownBelow n sheet.sig.now scope sheet.metas.now c (tokens_of sheet) from to
 
-    abbrev NewBy : ℕ → Way → SchemeContext → List Variable → List KnownVariable → Type 0
-    NewBy n = IsNewBy sheet.sig.now scope sheet.metas.now c (tokens_of sheet) from to n
+    abbrev KnownBy : ℕ → Way → SchemeContext → List Variable → List KnownVariable → Type 0
+    KnownBy n = IsKnownBy sheet.sig.now scope sheet.metas.now c (tokens_of sheet) from to n
 
-    pub nothing_new : (n : ℕ) → ((w : Way) (ctx : SchemeContext) (vars : List Variable) (ks : List KnownVariable) → NewBelow n w ctx vars ks → ⊥) → AreListed sheet scope c (NewBelow n) []
-    nothing_new n h = nothing_listed sheet scope c (NewBelow n) h
+    pub nothing_known : (n : ℕ) → (BeginsNewly sheet.sig.now c.0 (tokens_of sheet) from to → ⊥) → AreListed sheet scope c (KnownBelow n) []
+    nothing_known n h = nothing_listed sheet scope c (KnownBelow n) (λ w ctx vars ks k. h k.2)
 
-    pub no_new_below : AreListed sheet scope c (NewBelow 0) []
-    no_new_below = nothing_listed sheet scope c (NewBelow 0) (λ w ctx vars ks h. omega (arith, h.1))
+    pub none_known_below : AreListed sheet scope c (KnownBelow 0) []
+    none_known_below = nothing_listed sheet scope c (KnownBelow 0) (λ w ctx vars ks h. omega (arith, h.1))
 
-    pub new_more : (n : ℕ) → scope.fresh ≡ fresh_head → BeginsNewly sheet.sig.now c.0 (tokens_of sheet) from to → (xs ys : List Shape)
-        → AreListed sheet scope c (NewBelow n) (map context_shape xs) → AreListed sheet scope c (NewBy n) (map context_shape ys)
-        → AreListed sheet scope c (NewBelow (n + 1)) (map context_shape (xs ++ ys))
-    new_more n head begun xs ys f g =
-        same_listed sheet scope c (λ w ctx vars ks. NewBelow n w ctx vars ks ⊎ NewBy n w ctx vars ks) (NewBelow (n + 1)) (map context_shape (xs ++ ys))
-        (λ w ctx vars ks. one_new_more sheet.sig.now scope sheet.metas.now c (tokens_of sheet) from to start within n head begun w ctx vars ks)
-        (listed_append (NewBelow n) (NewBy n) xs ys
-        (λ v w a b vs us ks ls. new_apart sheet.sig.now scope sheet.metas.now c (tokens_of sheet) from to start within n v w a b vs us ks ls) f g)
+    pub known_more : (n : ℕ) → BeginsNewly sheet.sig.now c.0 (tokens_of sheet) from to → (xs ys : List Shape)
+        → AreListed sheet scope c (KnownBelow n) (map context_shape xs) → AreListed sheet scope c (KnownBy n) (map context_shape ys)
+        → AreListed sheet scope c (KnownBelow (n + 1)) (map context_shape (xs ++ ys))
+    known_more n begun xs ys f g =
+        same_listed sheet scope c (λ w ctx vars ks. KnownBelow n w ctx vars ks ⊎ KnownBy n w ctx vars ks) (KnownBelow (n + 1)) (map context_shape (xs ++ ys))
+        (λ w ctx vars ks. one_known_more sheet.sig.now scope sheet.metas.now c (tokens_of sheet) from to start within n begun w ctx vars ks)
+        (listed_append (KnownBelow n) (KnownBy n) xs ys
+        (λ v w a b vs us ks ls. known_apart sheet.sig.now scope sheet.metas.now c (tokens_of sheet) from to start within n v w a b vs us ks ls) f g)
 
-    pub all_new : (n : ℕ) → length sheet.sig.now.prods ≤ n → (all : List ContextShape) → AreListed sheet scope c (NewBelow n) all
-        → AreListed sheet scope c (NewBelow (length sheet.sig.now.prods)) all
-    all_new n le all = same_listed sheet scope c (NewBelow n) (NewBelow (length sheet.sig.now.prods)) all
-        (λ w ctx vars ks. (λ h. (h.0, slice_get_within sheet.sig.now.prods h.0 (h.4).0 (h.4).1, h.2, h.3, h.4), λ h. (h.0, omega (arith, h.1, le), h.2, h.3, h.4)))
+    pub all_known : (n : ℕ) → length sheet.sig.now.prods ≤ n → (all : List ContextShape) → AreListed sheet scope c (KnownBelow n) all
+        → AreListed sheet scope c (KnownBelow (length sheet.sig.now.prods)) all
+    all_known n le all = same_listed sheet scope c (KnownBelow n) (KnownBelow (length sheet.sig.now.prods)) all
+        (λ w ctx vars ks. (λ h. (h.0, slice_get_within sheet.sig.now.prods h.0 (h.3).0 (h.3).1, h.2, h.3), λ h. (h.0, omega (arith, h.1, le), h.2, h.3)))
 
-    pub all_shapes : (n : ℕ) (xs ys : List Shape) → length sheet.sig.now.prods ≤ n → WritesNoKnown scope → AreListed sheet scope c (Below n) (map context_shape xs)
-        → AreListed sheet scope c (NewBelow (length sheet.sig.now.prods)) (map context_shape ys)
+    pub all_shapes : (n : ℕ) (xs ys : List Shape) → length sheet.sig.now.prods ≤ n → AreListed sheet scope c (Below n) (map context_shape xs)
+        → AreListed sheet scope c (KnownBelow (length sheet.sig.now.prods)) (map context_shape ys)
         → AreListed sheet scope c (ReadsContextAt sheet.sig.now scope sheet.metas.now c.0 (slice_range (tokens_of sheet) from to)) (map context_shape (xs ++ ys))
-    all_shapes n xs ys le writes f g =
+    all_shapes n xs ys le f g =
         let m = length sheet.sig.now.prods in
-        same_listed sheet scope c (λ w ctx vars ks. Below n w ctx vars ks ⊎ NewBelow m w ctx vars ks)
+        same_listed sheet scope c (λ w ctx vars ks. Below n w ctx vars ks ⊎ KnownBelow m w ctx vars ks)
         (ReadsContextAt sheet.sig.now scope sheet.metas.now c.0 (slice_range (tokens_of sheet) from to)) (map context_shape (xs ++ ys))
-        (λ w ctx vars ks. all_contexts sheet.sig.now scope sheet.metas.now c (tokens_of sheet) from to start within n le writes w ctx vars ks)
-        (listed_append (Below n) (NewBelow m) xs ys
-        (λ v w a b vs us ks ls. new_last_of_all sheet.sig.now scope sheet.metas.now c (tokens_of sheet) from to start within n m v w a b vs us ks ls) f g)
+        (λ w ctx vars ks. all_contexts sheet.sig.now scope sheet.metas.now c (tokens_of sheet) from to start within n le w ctx vars ks)
+        (listed_append (Below n) (KnownBelow m) xs ys
+        (λ v w a b vs us ks ls. known_last_of_all sheet.sig.now scope sheet.metas.now c (tokens_of sheet) from to start within n m v w a b vs us ks ls) f g)

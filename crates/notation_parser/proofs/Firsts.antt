@@ -1,12 +1,7 @@
 -- The first two of what is told by the first two of something else.
 use Rattle.std.proofs.Common.{◌≡◌, ◌≢◌, ◌⊎◌, List, [], ◌∷◌, inl, inr, subst}
 use Rattle.term_reader.specs.Firsts.{AreFirst, IsLeast}
-
--- each of the first list tells the one at its place in the second
-abbrev pub AreTold : {A B : Type 0} → (A → B → Type 0) → List A → List B → Type 0
-AreTold T [] [] = Unit {0}
-AreTold T (a ∷ xs) (b ∷ ys) = T a b × AreTold T xs ys
-AreTold T _ _ = ⊥
+use Rattle.notation_parser.specs.Fronts.{AreTold}
 
 module _ {K A B : Type 0} (Before : K → K → Type 0) (T : A → B → Type 0) (once : (a : A) (b c : B) → T a b → T a c → b ≡ c) where
   least_told : (P : K → A → Type 0) (Q : K → B → Type 0) (there : (k : K) (a : A) (b : B) → P k a → T a b → Q k b) (back : (k : K) (b : B) → Q k b → (a : A) × P k a × T a b)

@@ -46,7 +46,7 @@ abbrev pub ReadsFormAt : Signature → List MetaDecl → List Variable → Optio
 ReadsFormAt sig metas vars ctx front v items ts ls ws ss =
     (r : ReadsForm sig metas vars ctx front items ts ss) × (form_lengths r ≡ ls) × (ways_of_form v r ≡ ws)
 
-no_slot_variables : (ns : List ℕ) → slot_variables [] ns ≡ []
+pub no_slot_variables : (ns : List ℕ) → slot_variables [] ns ≡ []
 no_slot_variables [] = refl
 no_slot_variables (n ∷ ns) = ap (λ vs. vs ++ variable_at (slice_get [] n)) (no_slot_variables ns)
 

@@ -1,11 +1,10 @@
 -- The readings of judgments by their forms, with and without a context, each judgment before all that follow it.
-use Rattle.std.proofs.Common.{◌≡◌, ◌≢◌, ◌⊎◌, ◌↔◌, ◌==◌, cond, ℕ, ◌+◌, ◌<◌, ◌≤◌, List, [], ◌∷◌, length, map, inl, inr, refl, ap, ◌∙◌, sym, subst, arith, Some, None, slice_get}
+use Rattle.std.proofs.Common.{◌≡◌, ◌⊎◌, ◌↔◌, ◌==◌, ℕ, ◌+◌, ◌<◌, ◌≤◌, List, [], length, map, inl, inr, refl, ap, ◌∙◌, sym, subst, arith, Some, None, slice_get}
 use Rattle.std.specs.Prelude.{count_by, MatchOption}
 use Rattle.std.specs.List.{AllByRecursion}
-use Rattle.std.proofs.lemmas.Bool.{cases_lt, eq-eqb}
-use Rattle.std.proofs.lemmas.List.Sums.{sum_by-cons}
+use Rattle.std.proofs.lemmas.Bool.{cases_lt}
 use Rattle.std.proofs.lemmas.Option.{slice_get_within}
-use Rattle.binding_terms.specs.Signature.{Signature, Place, slots}
+use Rattle.binding_terms.specs.Signature.{Signature, slots}
 use Rattle.binding_terms.specs.declared.grammar.CatId.{CatId}
 use Rattle.scheme_terms.specs.SchemeTree.{SchemeTree, con}
 use Rattle.scheme_terms.specs.Forms.{KnownVariable}
@@ -21,7 +20,7 @@ use Rattle.term_reader.proofs.Finding.{AreFirst-same, AreFirst-map, AreFirst-ful
 use Rattle.term_reader.proofs.TermCases.{all_at}
 use Rattle.notation_parser.specs.Forms.{IsFormOf, closed_judgment, judgment_of, closed_form, judged, IsOpenForm, IsReadAs, IsReadAsAny}
 use Rattle.notation_parser.specs.Ordered.{WrittenForm}
-use Rattle.notation_parser.specs.Plain.{HasOneContext, BeginsWith, IsContextFirst, HasContextFirst, IsOneAtFront}
+use Rattle.notation_parser.specs.Plain.{HasOneContext}
 use Rattle.notation_parser.specs.View.{outcome}
 use Rattle.notation_parser.specs.declared.outcomes.Outcome.{Outcome}
 use Rattle.notation_parser.proofs.FormCases.{shaped, none_of_none, ReadsFormAt, form_items, made_form, by_items}
@@ -30,43 +29,12 @@ use Rattle.notation_parser.proofs.FormCases.{shaped, none_of_none, ReadsFormAt, 
 abbrev nowhere : Way
 nowhere = way 0 [] no_ways
 
--- one more place is counted or not
-one_counted : (c : ℕ) (s : Place) (ss : List Place) → count_by (λ t. t.cat == c) (s ∷ ss) ≡ cond (s.cat == c) 1 0 + count_by (λ t. t.cat == c) ss
-one_counted c s ss = sum_by-cons (λ (t : Place). cond (t.cat == c) 1 0) s ss
-
-none_counted : (c : ℕ) (ss : List Place) → count_by (λ s. s.cat == c) ss ≡ 0 → AllByRecursion (λ s. s.cat ≢ c) ss
-none_counted c [] e = tt
-none_counted c (s ∷ ss) e = (differs, none_counted c ss rest)
-  where
-    both : cond (s.cat == c) 1 0 + count_by (λ t. t.cat == c) ss ≡ 0
-    both = sym (one_counted c s ss) ∙ e
-
-    rest : count_by (λ t. t.cat == c) ss ≡ 0
-    rest = omega (arith, both)
-
-    differs : s.cat ≢ c
-    differs same =
-        let one : 1 + count_by (λ t. t.cat == c) ss ≡ 0 = ap (λ t. cond t 1 0 + count_by (λ t. t.cat == c) ss) (sym (eq-eqb s.cat c same)) ∙ both in
-        omega (arith, one)
-
--- a slot that comes first and is the only one of its category
-at_front : (c : ℕ) (ss : List Place) → count_by (λ s. s.cat == c) ss ≡ 1 → BeginsWith c ss → IsOneAtFront c ss
-at_front c [] e b = absurd b
-at_front c (s ∷ ss) e b = (b, none_counted c ss rest)
-  where
-    rest : count_by (λ t. t.cat == c) ss ≡ 0
-    rest =
-        let one : 1 + count_by (λ t. t.cat == c) ss ≡ 1 =
-        ap (λ t. cond t 1 0 + count_by (λ t. t.cat == c) ss) (sym (eq-eqb s.cat c b)) ∙ sym (one_counted c s ss) ∙ e in
-        omega (arith, one)
-
-pub form_at_front : (js : List Judgment) (k : ℕ) (j : Judgment) (c : CatId) → slice_get js k ≡ Some j → j.ctx ≡ Some c → AllByRecursion HasOneContext js → HasContextFirst js
-    → IsOneAtFront c.0 (slots j.items)
-form_at_front js k j c here assumes one first =
+-- the form of a judgment over a context has one slot of it
+pub form_with_one : (js : List Judgment) (k : ℕ) (j : Judgment) (c : CatId) → slice_get js k ≡ Some j → j.ctx ≡ Some c → AllByRecursion HasOneContext js
+    → count_by (λ s. s.cat == c.0) (slots j.items) ≡ 1
+form_with_one js k j c here assumes one =
     let o : HasOneContext j = all_at HasOneContext js k j one here in
-    let f : IsContextFirst j = all_at IsContextFirst js k j first.forms here in
-    at_front c.0 (slots j.items) (subst (λ o. MatchOption o (Unit {0}) (λ d. count_by (λ s. s.cat == d.0) (slots j.items) ≡ 1)) assumes o)
-    (subst (λ o. MatchOption o (Unit {0}) (λ d. BeginsWith d.0 (slots j.items))) assumes f)
+    subst (λ o. MatchOption o (Unit {0}) (λ d. count_by (λ s. s.cat == d.0) (slots j.items) ≡ 1)) assumes o
 
 module _ (sig : Signature) (js : List Judgment) (scope : ReadingScope) (metas : List MetaDecl) (ts : List Token) where
   -- the readings by a judgment without a context are the products of its form

@@ -1,12 +1,11 @@
 -- The shapes of contexts that write a new known variable are the splits of its entry's items.
-use Rattle.std.proofs.Common.{◌≡◌, ◌≢◌, ◌⊎◌, ℕ, zero, suc, ◌+◌, ◌<◌, ◌≤◌, List, [], ◌∷◌, ◌++◌, length, map, take, drop, get_or, inl, inr, refl, ap, ◌∙◌, sym, subst, arith, Option, Some, None, MatchOption, slice_get, slice_range}
+use Rattle.std.proofs.Common.{◌≡◌, ◌≢◌, ◌⊎◌, ℕ, zero, suc, ◌+◌, ◌<◌, ◌≤◌, List, [], ◌∷◌, ◌++◌, length, map, take, get_or, inl, inr, refl, ap, ◌∙◌, sym, subst, arith, Option, Some, None, MatchOption, slice_get, slice_range}
 use Rattle.std.specs.List.{Contains, AllByRecursion}
 use Rattle.std.proofs.lemmas.List.{length-map, map-append, map_more}
 use Rattle.std.proofs.lemmas.List.Elements.{Contains-append_right}
 use Rattle.binding_terms.specs.Signature.{Signature, binders}
 use Rattle.binding_terms.specs.declared.grammar.CatId.{CatId}
 use Rattle.binding_terms.specs.declared.grammar.Item.{Item}
-use Rattle.binding_terms.specs.declared.grammar.Prod.{Prod}
 use Rattle.scheme_terms.specs.Forms.{SchemeContext, KnownVariable}
 use Rattle.scheme_terms.specs.declared.scheme.MetaDecl.{MetaDecl}
 use Rattle.rule_schemes.specs.Reading.{Token, Variable, entry_of, variables_of, ReadingScope, known_words, bare, IsKnownNumber}
@@ -21,15 +20,14 @@ use Rattle.term_reader.proofs.SplitLemmas.{all_weaker, cons_cases}
 use Rattle.term_reader.proofs.TermCases.{all_at}
 use Rattle.term_reader.proofs.Usable.{usable_splits}
 use Rattle.notation_parser.specs.Shapes.{ContextShape, new_entry, EntryShape, WrittenContext, shape_variables, ReadsInShape, IsShapeBefore, AreShapesInOrder, IsUsable, IsScopeKnown, KnownsApart, context_shape}
-use Rattle.notation_parser.specs.ContextCases.{IsEntryOver, IsNewEntryOf, IsNewBy, AreListed, first_variable, entry_of_split, new_entry_of, IsNewShape, AreNewShapes}
+use Rattle.notation_parser.specs.ContextCases.{IsNewEntryOf, AreListed, first_variable, entry_of_split, new_entry_of, IsNewShape, AreNewShapes}
 use Rattle.notation_parser.specs.declared.shaping.Shape.{Shape}
 use Rattle.term_reader.specs.declared.splitting.Split.{Split}
-use Rattle.notation_parser.proofs.ContextBeginnings.{nothing_listed, same_listed}
 use Rattle.notation_parser.proofs.ContextEntries.{one_variable, all_joined}
 use Rattle.notation_parser.proofs.ShapeLists.{Sound, before_at}
 
 -- a name has one number among known variables that are told apart
-known_case : (ks : List KnownVariable) (w : List ℕ) (n : ℕ) → IsKnownNumber ks w n
+pub known_case : (ks : List KnownVariable) (w : List ℕ) (n : ℕ) → IsKnownNumber ks w n
     → ((k : KnownVariable) × (slice_get ks n ≡ Some k) × (k.name ≡ w)) ⊎ ((n ≡ length ks) × AllByRecursion (λ (k : KnownVariable). k.name ≢ w) ks)
 known_case ks w n h = go (slice_get ks n) refl h
   where
@@ -38,7 +36,7 @@ known_case ks w n h = go (slice_get ks n) refl h
     go None e h = inr h
     go (Some k) e h = inl (k, e, h)
 
-two_places : (ks : List KnownVariable) (n m : ℕ) (k l : KnownVariable) → KnownsApart ks → slice_get ks n ≡ Some k → slice_get ks m ≡ Some l → k.name ≡ l.name → n ≡ m
+pub two_places : (ks : List KnownVariable) (n m : ℕ) (k l : KnownVariable) → KnownsApart ks → slice_get ks n ≡ Some k → slice_get ks m ≡ Some l → k.name ≡ l.name → n ≡ m
 two_places [] n m k l apart e f same = cc
 two_places (x ∷ ks) zero zero k l apart e f same = refl
 two_places (x ∷ ks) zero (suc m) k l apart e f same =
@@ -49,7 +47,7 @@ two_places (x ∷ ks) (suc n) zero k l apart e f same =
     absurd (all_at (λ (y : KnownVariable). x.name ≢ y.name) ks n k apart.0 e (ap (λ (y : KnownVariable). y.name) is ∙ sym same))
 two_places (x ∷ ks) (suc n) (suc m) k l apart e f same = ap suc (two_places ks n m k l apart.1 e f same)
 
-one_known : (ks : List KnownVariable) (w : List ℕ) (n m : ℕ) → KnownsApart ks → IsKnownNumber ks w n → IsKnownNumber ks w m → n ≡ m
+pub one_known : (ks : List KnownVariable) (w : List ℕ) (n m : ℕ) → KnownsApart ks → IsKnownNumber ks w n → IsKnownNumber ks w m → n ≡ m
 one_known ks w n m apart f g = go (known_case ks w n f) (known_case ks w m g)
   where
     Case : ℕ → Type 0
@@ -217,25 +215,3 @@ new_of_more ks p found j here all x lt is a h =
     subst (λ ds. AreNewShapes ks p ds (map context_shape (all ++ x ∷ []))) (sym (map_more split found j here lt ∙ ap (λ y. map split (take j found) ++ split y ∷ []) (sym is)))
     (subst (AreNewShapes ks p (map split (take j found) ++ split here ∷ [])) (sym (map-append context_shape all (x ∷ [])))
     (new_last ks p (map split (take j found)) (map context_shape all) (split here) (context_shape x) a h))
-
--- by one production
-module _ (sheet : Sheet) (scope : ReadingScope) (c : CatId) (from to p : ℕ) (prod : Prod) (found : slice_get sheet.sig.now.prods p ≡ Some prod) where
-  abbrev NewBy : Way → SchemeContext → List Variable → List KnownVariable → Type 0
-  NewBy = IsNewBy sheet.sig.now scope sheet.metas.now c (tokens_of sheet) from to p
-
-  abbrev NewOf : Prod → Way → SchemeContext → List Variable → List KnownVariable → Type 0
-  NewOf q = IsNewEntryOf sheet.sig.now scope sheet.metas.now c (tokens_of sheet) from to p (drop 1 q.items)
-
-  new_prod : (q : Prod) → slice_get sheet.sig.now.prods p ≡ Some q → q ≡ prod
-  new_prod q e = let two : Some q ≡ Some prod = sym e ∙ found in cc
-
-  pub new_other_cat : prod.cat.0 ≢ c.0 → AreListed sheet scope c NewBy []
-  new_other_cat h = nothing_listed sheet scope c NewBy (λ w ctx vars ks r. absurd (h (ap (λ (q : Prod). q.cat.0) (sym (new_prod r.0 r.1)) ∙ r.2)))
-
-  pub new_no_entry : (IsEntryOver c.0 prod.items → ⊥) → AreListed sheet scope c NewBy []
-  new_no_entry h = nothing_listed sheet scope c NewBy (λ w ctx vars ks r. h (subst (λ (q : Prod). IsEntryOver c.0 q.items) (new_prod r.0 r.1) r.3))
-
-  pub new_by : (all : List ContextShape) → prod.cat.0 ≡ c.0 → IsEntryOver c.0 prod.items → AreListed sheet scope c (NewOf prod) all → AreListed sheet scope c NewBy all
-  new_by all cat over =
-      same_listed sheet scope c (NewOf prod) NewBy all
-      (λ w ctx vars ks. (λ h. (prod, found, cat, over, h), λ r. subst (λ (q : Prod). NewOf q w ctx vars ks) (new_prod r.0 r.1) r.4))

@@ -4,7 +4,7 @@ use Rattle.binding_terms.specs.Numbered.{AnyByRecursion}
 use Rattle.scheme_terms.specs.SchemeTree.{SchemeTree, meta, known, local, con, Values, no_values, value, Parts, no_parts, part, OccursIn, OccursInValues, OccursInParts}
 use Rattle.scheme_terms.specs.Forms.{SchemeEntry, KnownVariable}
 use Rattle.rule_schemes.specs.Said.{Written, a_term, a_judgment, a_context, OccursInEntries, OccursInWritten}
-use Rattle.notation_parser.specs.Renaming.{renamed, renamed_values, renamed_parts, renamed_entry, renamed_known, renamed_written, KeepsKnowns, OccursInKnowns, OccursInWanted}
+use Rattle.notation_parser.specs.Renaming.{renamed, renamed_values, renamed_parts, renamed_entry, renamed_known, renamed_written, OccursInKnowns, OccursInWanted}
 
 -- what occurs before the numbering occurs after it, with its new number
 module _ (new : ℕ → ℕ) (m : ℕ) where
@@ -123,10 +123,6 @@ module _ (new : ℕ → ℕ) where
   schemes_same [] h = refl
   schemes_same (s ∷ ss) h = ap (λ x. x ∷ map (renamed new) ss) (scheme_same s (λ n o. h n (inl o))) ∙ ap (λ xs. s ∷ xs) (schemes_same ss (λ n o. h n (inr o)))
 
-  -- known variables whose entries have no metavariable that is moved
-  pub knowns_same : (ks : List KnownVariable) → ((m : ℕ) → OccursInKnowns m ks → new m ≡ m) → KeepsKnowns new ks
-  knowns_same [] h = tt
-  knowns_same (k ∷ ks) h = (
-    ap (λ (ss : List SchemeTree). record { name = k.name; entry = record { prod = k.entry.prod; args = ss } }) (schemes_same k.entry.args (λ n o. h n (inl o))),
-    knowns_same ks (λ n o. h n (inr o)),
-  )
+  -- a known variable whose entry has no metavariable that is moved
+  pub known_same : (k : KnownVariable) → ((m : ℕ) → AnyByRecursion (OccursIn m) k.entry.args → new m ≡ m) → renamed_known new k ≡ k
+  known_same k h = ap (λ (ss : List SchemeTree). record { name = k.name; entry = record { prod = k.entry.prod; args = ss } }) (schemes_same k.entry.args h)

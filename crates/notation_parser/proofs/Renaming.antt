@@ -1,5 +1,5 @@
 -- Readings stay readings, at their places, where the metavariables are numbered anew.
-use Rattle.std.proofs.Common.{◌≡◌, ◌⊎◌, ℕ, ◌+◌, ◌<◌, List, [], ◌∷◌, ◌++◌, length, map, inl, inr, refl, ap, ◌∙◌, sym, subst, Option, Some, slice_get, append-nil}
+use Rattle.std.proofs.Common.{◌≡◌, ◌≢◌, ℕ, zero, suc, ◌+◌, ◌<◌, List, [], ◌∷◌, ◌++◌, length, map, inl, inr, refl, ap, ◌∙◌, sym, subst, Option, Some, slice_get, append-nil}
 use Rattle.std.specs.List.{AllByRecursion}
 use Rattle.std.proofs.lemmas.List.{map-append}
 use Rattle.std.proofs.lemmas.Option.{slice_get_within}
@@ -10,16 +10,17 @@ use Rattle.binding_terms.specs.declared.grammar.Item.{Item}
 use Rattle.scheme_terms.specs.SchemeTree.{SchemeTree, meta, known, local, con, Values, no_values, value, Parts, no_parts, part, OccursIn, OccursInValues, OccursInParts}
 use Rattle.scheme_terms.specs.Forms.{SchemeEntry, SchemeContext, KnownVariable}
 use Rattle.scheme_terms.specs.declared.scheme.MetaDecl.{MetaDecl}
-use Rattle.rule_schemes.specs.Reading.{Token, Meaning, bound, entry_of, Variable, meant, counted, Means, bare, ReadsTerm, group, metavariable, variable, production, ReadsBrackets, no_brackets, brackets, ReadsArguments, one_more, last_one, ReadsItems, all_read, terminal, binder, slot, known_words, ReadingScope, not_fresh, ReadsContext, root, empty_form, entry, known_entry, head_entry, ReadsForm, form_end, form_terminal, form_context, form_slot, ReadsJudgment, without_context, with_context}
+use Rattle.rule_schemes.specs.Reading.{Token, Meaning, bound, entry_of, Variable, meant, counted, Means, bare, ReadsTerm, group, metavariable, variable, production, ReadsBrackets, no_brackets, brackets, ReadsArguments, one_more, last_one, ReadsItems, all_read, terminal, binder, slot, known_words, ReadingScope, not_fresh, fresh_head, ReadsContext, root, empty_form, entry, known_entry, head_entry, ReadsForm, form_end, form_terminal, form_context, form_slot, ReadsJudgment, without_context, with_context}
 use Rattle.scheme_terms.specs.declared.scheme.Root.TheVariants.{Whole}
 use Rattle.rule_schemes.specs.NewNames.{IsNewMeta, AreInOrder}
 use Rattle.rule_schemes.specs.Rules.{JudgmentScheme}
 use Rattle.rule_schemes.specs.Said.{Want, Written, a_term, a_judgment, a_context, Said, ReadsWanted, reads_term, reads_judgment, reads_context, OccursInEntries, OccursInWritten, OccursInSaid, AreNewMetas, Reads, ReadsAs, HasOneReading, Way, way, Ways, no_ways, then_way, way_of_term, bracket_lengths, argument_lengths, ways_of_brackets, ways_of_arguments, item_lengths, ways_of_items, way_of_context, form_lengths, ways_of_form, way_of_judgment, way_of_wanted}
 use Rattle.rule_schemes.specs.declared.rule.Judgment.{Judgment}
 use Rattle.term_reader.specs.Ordered.{ReadsTermAt, ReadsBracketsAt, ReadsItemsAt}
-use Rattle.term_reader.proofs.TermCases.{all_at}
 use Rattle.notation_parser.specs.Ordered.{ReadsWantedAt}
 use Rattle.notation_parser.specs.Renaming.{OccursInKnowns, OccursInWanted, renamed, renamed_values, renamed_parts, renamed_entry, renamed_context, renamed_judgment, renamed_known, renamed_written, renamed_said, KeepsUsed, KeepsKnowns, with_metas, AreReordered}
+use Rattle.notation_parser.proofs.OccurringAnew.{known_same}
+use Rattle.notation_parser.proofs.Within.{bare_occurs, parts_occur, any_front, any_back, OccursInContext, OccursInJudgment, items_within, wanted_within}
 
 -- a reading of arguments, with the lengths and the readings of the arguments
 abbrev pub ReadsArgumentsAt : Signature → List MetaDecl → List Variable → (params : List ℕ) → List Token → List ℕ → Ways → Values → Type 0
@@ -86,40 +87,6 @@ pub bare_renamed : (new : ℕ → ℕ) (xs : Parts) → map (renamed new) (bare 
 bare_renamed new no_parts = refl
 bare_renamed new (part n s xs) = ap (λ ss. renamed new s ∷ ss) (bare_renamed new xs)
 
-pub bare_occurs : (m : ℕ) (xs : Parts) → OccursInParts m xs → AnyByRecursion (OccursIn m) (bare xs)
-bare_occurs m no_parts o = o
-bare_occurs m (part n s xs) (inl o) = inl o
-bare_occurs m (part n s xs) (inr o) = inr (bare_occurs m xs o)
-
-pub parts_occur : (m : ℕ) (xs : Parts) → AnyByRecursion (OccursIn m) (bare xs) → OccursInParts m xs
-parts_occur m no_parts o = o
-parts_occur m (part n s xs) (inl o) = inl o
-parts_occur m (part n s xs) (inr o) = inr (parts_occur m xs o)
-
-any_front : {A : Type 0} (P : A → Type 0) (xs ys : List A) → AnyByRecursion P xs → AnyByRecursion P (xs ++ ys)
-any_front P [] ys h = absurd h
-any_front P (x ∷ xs) ys (inl h) = inl h
-any_front P (x ∷ xs) ys (inr h) = inr (any_front P xs ys h)
-
-any_back : {A : Type 0} (P : A → Type 0) (xs ys : List A) → AnyByRecursion P ys → AnyByRecursion P (xs ++ ys)
-any_back P [] ys h = h
-any_back P (x ∷ xs) ys h = inr (any_back P xs ys h)
-
-any_split : {A : Type 0} (P : A → Type 0) (xs ys : List A) → AnyByRecursion P (xs ++ ys) → AnyByRecursion P xs ⊎ AnyByRecursion P ys
-any_split P [] ys h = inr h
-any_split P (x ∷ xs) ys (inl h) = inl (inl h)
-any_split P (x ∷ xs) ys (inr h) = go (any_split P xs ys h)
-  where
-    go : AnyByRecursion P xs ⊎ AnyByRecursion P ys → AnyByRecursion P (x ∷ xs) ⊎ AnyByRecursion P ys
-    go (inl k) = inl (inr k)
-    go (inr k) = inr k
-
-abbrev pub OccursInContext : ℕ → SchemeContext → List KnownVariable → Type 0
-OccursInContext m ctx ks = OccursInEntries m ctx.entries ⊎ OccursInKnowns m ks
-
-abbrev pub OccursInJudgment : ℕ → JudgmentScheme → List KnownVariable → Type 0
-OccursInJudgment m j ks = (OccursInEntries m j.context.entries ⊎ AnyByRecursion (OccursIn m) j.args) ⊎ OccursInKnowns m ks
-
 -- readings of forms, contexts and judgments at their places
 abbrev pub ReadsFormOver : Signature → List MetaDecl → List Variable → Option CatId → List Token → List Item → List Token → Way → List ℕ → Ways → List SchemeTree → Type 0
 ReadsFormOver sig metas vars ctx front items ts of_context ls ws ss =
@@ -138,8 +105,10 @@ entries_renamed new es p xs =
     map-append (renamed_entry new) es (record { prod = p; args = bare xs } ∷ [])
     ∙ ap (λ (ss : List SchemeTree). map (renamed_entry new) es ++ record { prod = p; args = ss } ∷ []) (bare_renamed new xs)
 
-kept_at : (new : ℕ → ℕ) (ks : List KnownVariable) (n : ℕ) (k : KnownVariable) → KeepsKnowns new ks → slice_get ks n ≡ Some k → renamed_known new k ≡ k
-kept_at new ks n k all e = all_at (λ (k : KnownVariable). renamed_known new k ≡ k) ks n k all e
+any_at : {A : Type 0} (P : A → Type 0) (xs : List A) (n : ℕ) (x : A) → slice_get xs n ≡ Some x → P x → AnyByRecursion P xs
+any_at P [] n x e h = cc
+any_at P (y ∷ xs) zero x e h = let same : y ≡ x = cc in inl (subst P (sym same) h)
+any_at P (y ∷ xs) (suc n) x e h = inr (any_at P xs n x e h)
 
 module _ (sig : Signature) (metas others : List MetaDecl) (new : ℕ → ℕ) where
   pub form_renamed : {vars : List Variable} {ctx : Option CatId} {front : List Token} {items : List Item} {ts : List Token} {ss : List SchemeTree} (of_context : Way)
@@ -154,7 +123,7 @@ module _ (sig : Signature) (metas others : List MetaDecl) (new : ℕ → ℕ) wh
       let q = form_renamed of_context r (λ n d o. keeps n d (inr o)) in
       (form_slot e split some k.0 q.0, ap (λ ls. length first ∷ ls) q.1, ap (λ w. then_way w (ways_of_form of_context q.0)) k.1 ∙ ap (then_way (way_of_term t)) q.2)
 
-  module _ (scope : ReadingScope) (outer : List MetaDecl) (knowns : KeepsKnowns new scope.names.knowns) where
+  module _ (scope : ReadingScope) (outer : List MetaDecl) (knowns : scope.fresh ≢ fresh_head → KeepsKnowns new metas scope.names.knowns) where
     pub context_renamed : {c : ℕ} {ts : List Token} {ctx : SchemeContext} {vars : List Variable} {ks : List KnownVariable} (r : ReadsContext sig scope metas c ts ctx vars ks)
         → KeepsUsed new metas others (λ m. OccursInContext m ctx ks)
         → ReadsContextAt sig (with_metas scope outer) others c ts (way_of_context r) (renamed_context new ctx) vars (map (renamed_known new) ks)
@@ -179,7 +148,10 @@ module _ (sig : Signature) (metas others : List MetaDecl) (new : ℕ → ℕ) wh
         let occurs : (m : ℕ) → OccursInParts m xs → AnyByRecursion (OccursIn m) k.entry.args =
         λ m o. subst (λ (e : SchemeEntry). AnyByRecursion (OccursIn m) e.args) (sym here) (bare_occurs m xs o) in
         let q = items_renamed sig metas others new r (λ m d o. keeps m d (inr (inl (occurs m o)))) in
-        let same : renamed_known new k ≡ k = kept_at new scope.names.knowns n k knowns found in
+        let back : (m : ℕ) → AnyByRecursion (OccursIn m) k.entry.args → OccursInParts m xs =
+        λ m o. parts_occur m xs (subst (λ (e : SchemeEntry). AnyByRecursion (OccursIn m) e.args) here o) in
+        let same : renamed_known new k ≡ k =
+        known_same new k (λ m o. knowns f m (any_at (λ (l : KnownVariable). AnyByRecursion (OccursIn m) l.entry.args) scope.names.knowns n k found o) (items_within sig metas r m (back m o))) in
         let still : k.entry ≡ record { prod = p; args = bare (renamed_parts new xs) } =
         sym (ap (λ (k : KnownVariable). k.entry) same) ∙ ap (renamed_entry new) here ∙ ap (λ (ss : List SchemeTree). record { prod = p; args = ss }) (bare_renamed new xs) in
         subst (λ (x : KnownVariable). ReadsContextAt sig (with_metas scope outer) others c ts (way (1 + (length sig.prods + p)) (item_lengths r) (ways_of_items r))
@@ -274,86 +246,6 @@ module _ (there back : ℕ → ℕ) where
       ap (λ (x : SchemeEntry). record { name = k.name; entry = x } ∷ map (renamed_known there) (map (renamed_known back) ks)) (entry_back k.entry (λ n o. h n (inl o)))
       ∙ ap (λ xs. k ∷ xs) (knowns_back ks (λ n o. h n (inr o)))
 
--- each metavariable that occurs in what is read is one of the names
-abbrev pub AreWithin : List MetaDecl → (Occurs : ℕ → Type 0) → Type 0
-AreWithin metas Occurs = (m : ℕ) → Occurs m → m < length metas
-
-variable_has_none : (n : ℕ) (vars : List Variable) (w : List ℕ) (c : ℕ) (s : SchemeTree) → Means n vars w c s → (m : ℕ) → OccursIn m s → ⊥
-variable_has_none n [] w c s h m o = absurd h
-variable_has_none n (v ∷ vars) w c s (inl h) m o = none v.means (subst (OccursIn m) h.2 o)
-  where
-    none : (means : Meaning) → OccursIn m (meant means n) → ⊥
-    none bound o = o
-    none (entry_of k) o = o
-variable_has_none n (v ∷ vars) w c s (inr h) m o = variable_has_none (n + counted v.means) vars w c s h.1 m o
-
-two_within : (metas : List MetaDecl) {P Q : ℕ → Type 0} → AreWithin metas P → AreWithin metas Q → AreWithin metas (λ m. P m ⊎ Q m)
-two_within metas f g m (inl o) = f m o
-two_within metas f g m (inr o) = g m o
-
-module _ (sig : Signature) (metas : List MetaDecl) where
-  mutual
-    pub term_within : {vars : List Variable} {c : ℕ} {ts : List Token} {s : SchemeTree} → ReadsTerm sig metas vars c ts s → AreWithin metas (λ m. OccursIn m s)
-    term_within (group e r) = term_within r
-    term_within (metavariable {m = m} {decl = decl} e found c r) =
-        two_within metas (λ n o. subst (λ k. k < length metas) o (slice_get_within metas m decl found)) (brackets_within r)
-    term_within {vars} {c} {ts} (variable {w = w} {s = s} e h) = λ m o. absurd (variable_has_none 0 vars w c s h m o)
-    term_within (production found c r) = items_within r
-
-    pub brackets_within : {vars : List Variable} {params : List ℕ} {ts : List Token} {vs : Values} → ReadsBrackets sig metas vars params ts vs → AreWithin metas (λ m. OccursInValues m vs)
-    brackets_within no_brackets = λ m o. absurd o
-    brackets_within (brackets e r) = arguments_within r
-
-    pub arguments_within : {vars : List Variable} {params : List ℕ} {ts : List Token} {vs : Values} → ReadsArguments sig metas vars params ts vs → AreWithin metas (λ m. OccursInValues m vs)
-    arguments_within (one_more e t r) = two_within metas (term_within t) (arguments_within r)
-    arguments_within (last_one e t r) = two_within metas (term_within t) (brackets_within r)
-
-    pub items_within : {vars own : List Variable} {words : List (List ℕ)} {items : List Item} {ts : List Token} {xs : Parts} → ReadsItems sig metas vars own words items ts xs
-        → AreWithin metas (λ m. OccursInParts m xs)
-    items_within all_read = λ m o. absurd o
-    items_within (terminal h r) = items_within r
-    items_within (binder h r) = items_within r
-    items_within (slot split some t r) = two_within metas (term_within t) (items_within r)
-
-  pub form_within : {vars : List Variable} {ctx : Option CatId} {front : List Token} {items : List Item} {ts : List Token} {ss : List SchemeTree} → ReadsForm sig metas vars ctx front items ts ss
-      → AreWithin metas (λ m. AnyByRecursion (OccursIn m) ss)
-  form_within form_end = λ m o. absurd o
-  form_within (form_terminal h r) = form_within r
-  form_within (form_context e split r) = form_within r
-  form_within (form_slot e split some t r) = two_within metas (term_within t) (form_within r)
-
-  module _ (scope : ReadingScope) where
-    entries_within : (es : List SchemeEntry) (p : ℕ) (xs : Parts) → AreWithin metas (λ m. OccursInEntries m es) → AreWithin metas (λ m. OccursInParts m xs)
-        → AreWithin metas (λ m. OccursInEntries m (es ++ record { prod = p; args = bare xs } ∷ []))
-    entries_within es p xs f g m o = go (any_split (λ (e : SchemeEntry). AnyByRecursion (OccursIn m) e.args) es (record { prod = p; args = bare xs } ∷ []) o)
-      where
-        go : OccursInEntries m es ⊎ OccursInEntries m (record { prod = p; args = bare xs } ∷ []) → m < length metas
-        go (inl k) = f m k
-        go (inr (inl k)) = g m (parts_occur m xs k)
-        go (inr (inr k)) = absurd k
-
-    pub context_within : {c : ℕ} {ts : List Token} {ctx : SchemeContext} {vars : List Variable} {ks : List KnownVariable} → ReadsContext sig scope metas c ts ctx vars ks
-        → AreWithin metas (λ m. OccursInContext m ctx ks)
-    context_within (root e c) = two_within metas (λ m o. absurd o) (λ m o. absurd o)
-    context_within (empty_form p e c d h r) = two_within metas (λ m o. absurd o) (λ m o. absurd o)
-    context_within (entry p {xs = xs} {ctx = ctx} e split context r) =
-        let k = context_within context in
-        two_within metas (entries_within ctx.entries p xs (λ m o. k m (inl o)) (items_within r)) (λ m o. k m (inr o))
-    context_within (known_entry p b n {xs = xs} f e h is d r found named here) =
-        two_within metas (λ m o. absurd o)
-        (two_within metas (λ m o. items_within r m (parts_occur m xs (subst (λ (e : SchemeEntry). AnyByRecursion (OccursIn m) e.args) here o))) (λ m o. absurd o))
-    context_within (head_entry {xs = xs} f e h is d r number) =
-        two_within metas (λ m o. absurd o) (two_within metas (λ m o. items_within r m (parts_occur m xs o)) (λ m o. absurd o))
-
-    pub wanted_within : (js : List Judgment) {ts : List Token} {want : Want} {written : Written} {ks : List KnownVariable} → ReadsWanted sig js scope metas ts want written ks
-        → AreWithin metas (λ m. OccursInWanted m written ks)
-    wanted_within js (reads_term r) = two_within metas (term_within r) (λ m o. absurd o)
-    wanted_within js (reads_judgment (without_context e c r)) = two_within metas (two_within metas (λ m o. absurd o) (form_within r)) (λ m o. absurd o)
-    wanted_within js (reads_judgment (with_context e c context r)) =
-        let k = context_within context in
-        two_within metas (two_within metas (λ m o. k m (inl o)) (form_within r)) (λ m o. k m (inr o))
-    wanted_within js (reads_context r) = context_within r
-
 -- no new metavariable
 pub no_new_name : (sig : Signature) (scope : ReadingScope) (ts : List Token) (said : Said) → said.metas ≡ [] → AreNewMetas sig scope ts said
 no_new_name sig scope ts said none = record {
@@ -371,7 +263,7 @@ module _ (sig : Signature) (js : List Judgment) (scope : ReadingScope) (ts : Lis
       let none : said.metas ≡ [] = r.metas.allowed fresh in
       let all : scope.names.metas ++ said.metas ≡ scope.names.metas = ap (λ ms. scope.names.metas ++ ms) none ∙ append-nil scope.names.metas in
       let read : ReadsWanted sig js scope scope.names.metas ts want said.written said.knowns = subst (λ ms. ReadsWanted sig js scope ms ts want said.written said.knowns) all r.form in
-      let keeps : KeepsKnowns there scope.names.knowns = subst (KeepsKnowns there) (sym knowns) tt in
+      let keeps : scope.fresh ≢ fresh_head → KeepsKnowns there scope.names.metas scope.names.knowns = λ _ m o. absurd (subst (OccursInKnowns m) knowns o) in
       let again = wanted_renamed sig scope.names.metas others there scope others keeps js read
       (λ m d o e. kept m (slice_get_within scope.names.metas m d e) ∙ e) in
       record {

@@ -1,5 +1,5 @@
 -- What readings over all candidates say is what the tokens say with their new names.
-use Rattle.std.proofs.Common.{◌≡◌, ◌⊎◌, ◌↔◌, ℕ, ◌+◌, ◌-◌, ◌<◌, ◌≤◌, Bool, true, IsTrue, List, [], ◌∷◌, ◌++◌, length, map, inl, inr, refl, ap, ◌∙◌, sym, subst, arith, Some, slice_get, length-append}
+use Rattle.std.proofs.Common.{◌≡◌, ◌≢◌, ◌⊎◌, ◌↔◌, ℕ, ◌+◌, ◌-◌, ◌<◌, ◌≤◌, Bool, true, IsTrue, List, [], ◌∷◌, ◌++◌, length, map, inl, inr, refl, ap, ◌∙◌, sym, subst, arith, Some, slice_get, length-append}
 use Rattle.std.specs.List.{AllByRecursion}
 use Rattle.std.proofs.lemmas.Bool.{cases_lt}
 use Rattle.std.proofs.lemmas.Option.{slice_get_within}
@@ -7,17 +7,18 @@ use Rattle.binding_terms.specs.Numbered.{AllNumbered}
 use Rattle.binding_terms.specs.Signature.{Signature}
 use Rattle.scheme_terms.specs.Forms.{KnownVariable}
 use Rattle.scheme_terms.specs.declared.scheme.MetaDecl.{MetaDecl}
-use Rattle.rule_schemes.specs.Reading.{Token, ReadingScope, not_fresh}
+use Rattle.rule_schemes.specs.Reading.{Token, Fresh, not_fresh, fresh_names, fresh_head, ReadingScope}
 use Rattle.rule_schemes.specs.NewNames.{IsNewMeta, AreInOrder}
 use Rattle.rule_schemes.specs.Said.{Want, Written, Said, ReadsWanted, OccursInSaid, Reads, Way, way_of_wanted}
 use Rattle.rule_schemes.specs.declared.rule.Judgment.{Judgment}
 use Rattle.notation_parser.specs.Ordered.{ReadsWantedAt}
 use Rattle.notation_parser.specs.Renaming.{renamed_written, renamed_known, KeepsUsed, KeepsKnowns, OccursInWanted}
-use Rattle.notation_parser.specs.Used.{marked, marks_before, moved, Says, MayBeNew, KnownsInScope}
+use Rattle.notation_parser.specs.Used.{marked, marks_before, moved, Says, MayBeNew, KnownsStand}
 use Rattle.notation_parser.proofs.Marks.{place_of, marked_at, place_before, place_again, none_marked, all_marked, numbers_marked, numbered_at, all_numbered, within_marks, same_marks, moved_low, moved_high, front_at, back_at}
-use Rattle.notation_parser.proofs.OccurringAnew.{wanted_there, wanted_from, knowns_same}
+use Rattle.notation_parser.proofs.OccurringAnew.{wanted_there, wanted_from}
 use Rattle.notation_parser.proofs.FirstPlaces.{IsAmong, sorted, sorted_apart, order_marked, marks_of, one_marking}
-use Rattle.notation_parser.proofs.Renaming.{AreWithin, wanted_renamed, wanted_within, written_back, knowns_back}
+use Rattle.notation_parser.proofs.Renaming.{wanted_renamed, written_back, knowns_back}
+use Rattle.notation_parser.proofs.Within.{AreWithin, wanted_within}
 
 all_map : {A : Type 0} (P Q : A → Type 0) → ((a : A) → P a → Q a) → (xs : List A) → AllByRecursion P xs → AllByRecursion Q xs
 all_map P Q f [] h = tt
@@ -29,7 +30,7 @@ some_true b e = cc
 split_at : (m n : ℕ) → n ≤ m → m ≡ n + (m - n)
 split_at m n h = omega (arith, h)
 
-module _ (sig : Signature) (js : List Judgment) (scope : ReadingScope) (want : Want) (ts : List Token) (candidates : List MetaDecl) (may : MayBeNew sig scope ts candidates) (knowns : KnownsInScope scope) where
+module _ (sig : Signature) (js : List Judgment) (scope : ReadingScope) (want : Want) (ts : List Token) (candidates : List MetaDecl) (may : MayBeNew sig scope ts candidates) (knowns : scope.fresh ≡ fresh_names → KnownsStand scope) where
   abbrev old_names : List MetaDecl
   old_names = scope.names.metas
 
@@ -71,8 +72,14 @@ module _ (sig : Signature) (js : List Judgment) (scope : ReadingScope) (want : W
   abbrev pub SaidAt : Way → Said → Type 0
   SaidAt w said = (r : Reads sig js scope want ts said) × (way_of_wanted r.form ≡ w)
 
-  kept_known : (f : ℕ → ℕ) → KeepsKnowns (moved count f) scope.names.knowns
-  kept_known f = knowns_same (moved count f) scope.names.knowns (λ m o. moved_low count f m (knowns m o))
+  -- the entries of known variables are over the names of the scope, where they are read
+  kept_known : (f : ℕ → ℕ) (more : List MetaDecl) → (scope.fresh ≡ not_fresh → more ≡ []) → scope.fresh ≢ fresh_head → KeepsKnowns (moved count f) (scope.names.metas ++ more) scope.names.knowns
+  kept_known f more none other m o lt = moved_low count f m (low scope.fresh refl)
+    where
+      low : (fresh : Fresh) → scope.fresh ≡ fresh → m < count
+      low not_fresh e = omega (arith, lt, length-append scope.names.metas more, ap length (none e))
+      low fresh_names e = (knowns e).within m o
+      low fresh_head e = absurd (other e)
 
   -- marks of a reading over all candidates
   module _ (x : Written × List KnownVariable) (marks : List Bool) (long : length marks ≡ length candidates)
@@ -113,7 +120,7 @@ module _ (sig : Signature) (js : List Judgment) (scope : ReadingScope) (want : W
 
     said_of : (r : ReadsWanted sig js scope (scope.names.metas ++ candidates) ts want x.0 x.1) → SaidAt (way_of_wanted r) said_by
     said_of r =
-        let k = wanted_renamed sig (scope.names.metas ++ candidates) (scope.names.metas ++ chosen) new scope scope.names.metas (kept_known (marks_before marks)) js r keeps in (
+        let k = wanted_renamed sig (scope.names.metas ++ candidates) (scope.names.metas ++ chosen) new scope scope.names.metas (kept_known (marks_before marks) candidates none_allowed) js r keeps in (
           record {
             metas = record {
               allowed = λ f. ap (marked marks) (none_allowed f) ∙ none_marked marks;
@@ -228,7 +235,7 @@ module _ (sig : Signature) (js : List Judgment) (scope : ReadingScope) (want : W
     read_back : (w : Way) → SaidAt w said → (x : Written × List KnownVariable) × ReadAt w x × Says count candidates x said
     read_back w r =
         let f = (r.0).form in
-        let k = wanted_renamed sig (scope.names.metas ++ said.metas) (scope.names.metas ++ candidates) old scope scope.names.metas (kept_known (place_of marks)) js f keeps_back in
+        let k = wanted_renamed sig (scope.names.metas ++ said.metas) (scope.names.metas ++ candidates) old scope scope.names.metas (kept_known (place_of marks) said.metas (r.0).metas.allowed) js f keeps_back in
         (read, (k.0, k.1 ∙ r.1), says (r.0).metas.used (wanted_within sig (scope.names.metas ++ said.metas) scope js f))
 
   pub said_back : (w : Way) (said : Said) → SaidAt w said → (x : Written × List KnownVariable) × ReadAt w x × Says count candidates x said

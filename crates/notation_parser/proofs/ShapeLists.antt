@@ -108,7 +108,8 @@ module _ (sig : Signature) (scope : ReadingScope) (metas : List MetaDecl) (ts : 
     in_order = s.in_order;
   }
 
-  order_append : (xs ys : List ContextShape) → Ordered xs → Ordered ys → AllByRecursion (λ x. AllByRecursion (Before x) ys) xs → Ordered (xs ++ ys)
+  -- one list after another, each shape of the first before all of the second
+  pub order_append : (xs ys : List ContextShape) → Ordered xs → Ordered ys → AllByRecursion (λ x. AllByRecursion (Before x) ys) xs → Ordered (xs ++ ys)
   order_append [] ys h k apart = k
   order_append (x ∷ xs) ys h k apart = (all_both (Before x) xs ys h.0 apart.0, order_append xs ys h.1 k apart.1)
 

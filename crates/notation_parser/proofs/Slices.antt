@@ -1,51 +1,113 @@
--- The slots of a split as a list of pieces: the first, and the rest.
-use Rattle.std.proofs.Common.{◌≡◌, ◌↔◌, ℕ, ◌-◌, ◌<◌, ◌≤◌, List, [], ◌∷◌, length, map, take, drop, get_or, subst, sym, arith}
-use Rattle.std.proofs.lemmas.List.{take_rest}
+-- The slots of a split as a list of pieces: those in front of one of them, that one, and those behind it.
+use Rattle.std.proofs.Common.{◌≡◌, ◌≢◌, ◌-◌, ◌+◌, ◌<◌, ◌≤◌, ℕ, suc, List, [], ◌∷◌, length, map, take, drop, get_or, ap, ◌∙◌, subst, sym, add-one, slice_get, Some, zero}
+use Rattle.std.specs.List.{AllByRecursion}
+use Rattle.std.specs.Option.{option_map}
+use Rattle.std.proofs.lemmas.List.{map_more, take_rest, take-map, drop-map}
+use Rattle.std.proofs.lemmas.Option.{slice_get-get_or, slice_get-map}
 use Rattle.binding_terms.specs.Signature.{Signature}
 use Rattle.binding_terms.specs.declared.grammar.CatId.{CatId}
 use Rattle.scheme_terms.specs.SchemeTree.{Parts}
 use Rattle.scheme_terms.specs.declared.scheme.MetaDecl.{MetaDecl}
-use Rattle.rule_schemes.specs.Reading.{Token, ReadingScope, bare}
-use Rattle.rule_schemes.specs.Said.{Way, IsBefore, AreBefore}
+use Rattle.rule_schemes.specs.Reading.{Token, Variable, ReadingScope, bare}
+use Rattle.rule_schemes.specs.Said.{Ways, IsBefore, AreBefore}
 use Rattle.term_reader.specs.Firsts.{AreFirst, paired}
 use Rattle.term_reader.specs.Splitting.{SlotRange, slot_range, AreWithin, ReadsPieces}
 use Rattle.term_reader.specs.declared.splitting.Piece.{Piece}
+use Rattle.term_reader.proofs.Finding.{AreFirst-same}
 use Rattle.term_reader.proofs.Usable.{no_piece, all_at_place}
-use Rattle.notation_parser.specs.Forms.{judged, IsReadInShape, IsReadInSlots}
+use Rattle.term_reader.proofs.SplitLemmas.{all_both}
+use Rattle.notation_parser.specs.Forms.{beside, AroundContext, IsContextPlace, IsAroundInShape, IsReadInShape, IsReadInShapes, IsReadInSlots, HasFront, IsPlacedAs}
+use Rattle.notation_parser.specs.Fronts.{AreFirstAt, AreTold}
 use Rattle.notation_parser.specs.Ordered.{WrittenForm}
 use Rattle.notation_parser.specs.Shapes.{ContextShape, WrittenContext, ReadsInShape, AreShapes, shape_variables}
-use Rattle.notation_parser.proofs.OpenForms.{shape_read, slots_read}
-use Rattle.notation_parser.proofs.Several.{InOneOf}
+use Rattle.notation_parser.proofs.AroundShapes.{shape_read, have_fronts, shape_placed, shapes_read}
+use Rattle.notation_parser.proofs.ContextPlaces.{place_found}
+use Rattle.notation_parser.proofs.FrontLemmas.{first_alone}
 
-pub rest_within : (n : ℕ) (slots : List Piece) → AreWithin n (map slot_range slots) → AreWithin n (map slot_range (take (length slots - 1) (drop 1 slots)))
-rest_within n slots h = subst (λ ps. AreWithin n (map slot_range ps)) (sym (take_rest slots 1)) (go slots h)
-  where
-    go : (slots : List Piece) → AreWithin n (map slot_range slots) → AreWithin n (map slot_range (drop 1 slots))
-    go [] h = tt
-    go (p ∷ slots) h = h.1
+pub taken_within : (n : ℕ) (ps : List SlotRange) (place : ℕ) → AreWithin n ps → AreWithin n (take place ps)
+taken_within n ps zero h = tt
+taken_within n [] (suc place) h = tt
+taken_within n (p ∷ ps) (suc place) h = (h.0, taken_within n ps place h.1)
 
-pub front_within : (n : ℕ) (slots : List Piece) → 0 < length slots → AreWithin n (map slot_range slots)
-    → ((get_or slots 0 no_piece).from ≤ (get_or slots 0 no_piece).to) × ((get_or slots 0 no_piece).to ≤ n)
-front_within n slots some h = all_at_place slot_range (λ (p : SlotRange). (p.from ≤ p.to) × (p.to ≤ n)) slots 0 no_piece some h
+dropped_within : (n : ℕ) (ps : List SlotRange) (place : ℕ) → AreWithin n ps → AreWithin n (drop place ps)
+dropped_within n ps zero h = h
+dropped_within n [] (suc place) h = tt
+dropped_within n (p ∷ ps) (suc place) h = dropped_within n ps place h.1
 
-module _ (sig : Signature) (scope : ReadingScope) (metas : List MetaDecl) (ts : List Token) (c : CatId) (k : ℕ) where
-  -- the readings of pieces in one shape of the first one's contexts
-  pub pieces_in_shape : (slots : List Piece) (s : ContextShape) (xs : List WrittenContext) (ys : List Parts) (new : List WrittenForm) → 0 < length slots
-      → AreFirst IsBefore (ReadsInShape sig scope metas ts c s) xs
-      → AreFirst AreBefore (ReadsPieces sig metas ts (shape_variables sig scope c.0 s) [] (map slot_range (take (length slots - 1) (drop 1 slots)))) ys
-      → new ≡ paired (judged k) xs (map bare ys) → AreFirst IsBefore (IsReadInShape sig scope metas ts c k (map slot_range slots) s) new
-  pieces_in_shape slots s xs ys new some f g e =
-      subst (AreFirst IsBefore (IsReadInShape sig scope metas ts c k (map slot_range slots) s)) (sym e)
-      (go slots some (subst (λ ps. AreFirst AreBefore (ReadsPieces sig metas ts (shape_variables sig scope c.0 s) [] (map slot_range ps)) ys) (take_rest slots 1) g))
-    where
-      go : (slots : List Piece) → 0 < length slots → AreFirst AreBefore (ReadsPieces sig metas ts (shape_variables sig scope c.0 s) [] (map slot_range (drop 1 slots))) ys
-          → AreFirst IsBefore (IsReadInShape sig scope metas ts c k (map slot_range slots) s) (paired (judged k) xs (map bare ys))
-      go [] some g = absurd (omega (arith, some))
-      go (p ∷ slots) some g = shape_read sig scope metas ts c k (slot_range p) (map slot_range slots) s xs ys f g
+-- the pieces in front of a place, and those behind it
+pub pieces_front : (slots : List Piece) (place : ℕ) → map slot_range (take place slots) ≡ take place (map slot_range slots)
+pieces_front slots place = sym (take-map slot_range place slots)
 
-  -- and in all of its shapes
-  pub pieces_read : (slots : List Piece) (all : List ContextShape) → 0 < length slots → AreShapes sig scope metas ts c (get_or slots 0 no_piece).from (get_or slots 0 no_piece).to all
-      → (w : Way) (x : WrittenForm)
-      → InOneOf (IsReadInShape sig scope metas ts c k (map slot_range slots)) all w x ↔ IsReadInSlots sig scope metas ts c k (map slot_range slots) w x
-  pieces_read [] all some shapes w x = absurd (omega (arith, some))
-  pieces_read (p ∷ slots) all some shapes w x = slots_read sig scope metas ts c k (slot_range p) (map slot_range slots) all shapes w x
+pub pieces_behind : (slots : List Piece) (place : ℕ) → map slot_range (take (length slots - (place + 1)) (drop (place + 1) slots)) ≡ drop (suc place) (map slot_range slots)
+pieces_behind slots place =
+    ap (map slot_range) (take_rest slots (place + 1)) ∙ sym (drop-map slot_range (place + 1) slots) ∙ ap (λ m. drop m (map slot_range slots)) (add-one place)
+
+pub front_within : (n : ℕ) (slots : List Piece) (place : ℕ) → AreWithin n (map slot_range slots) → AreWithin n (map slot_range (take place slots))
+front_within n slots place h = subst (AreWithin n) (sym (pieces_front slots place)) (taken_within n (map slot_range slots) place h)
+
+pub behind_within : (n : ℕ) (slots : List Piece) (place : ℕ) → AreWithin n (map slot_range slots)
+    → AreWithin n (map slot_range (take (length slots - (place + 1)) (drop (place + 1) slots)))
+behind_within n slots place h = subst (AreWithin n) (sym (pieces_behind slots place)) (dropped_within n (map slot_range slots) (suc place) h)
+
+pub piece_within : (n : ℕ) (slots : List Piece) (place : ℕ) → place < length slots → AreWithin n (map slot_range slots)
+    → ((get_or slots place no_piece).from ≤ (get_or slots place no_piece).to) × ((get_or slots place no_piece).to ≤ n)
+piece_within n slots place lt h = all_at_place slot_range (λ (p : SlotRange). (p.from ≤ p.to) × (p.to ≤ n)) slots place no_piece lt h
+
+pub piece_at : (slots : List Piece) (place : ℕ) → place < length slots → slice_get (map slot_range slots) place ≡ Some (slot_range (get_or slots place no_piece))
+piece_at slots place lt = slice_get-map slot_range slots place ∙ ap (option_map slot_range) (slice_get-get_or slots place no_piece lt)
+
+-- one more of a list
+all_more : {X Y : Type 0} (f : X → Y) (P : Y → Type 0) (xs : List X) (k : ℕ) (d : X) → k < length xs → AllByRecursion P (map f (take k xs)) → P (f (get_or xs k d))
+    → AllByRecursion P (map f (take (k + 1) xs))
+all_more f P xs k d lt h p = subst (AllByRecursion P) (sym (map_more f xs k d lt)) (all_both P (map f (take k xs)) (f (get_or xs k d) ∷ []) h (p, tt))
+
+-- how far no slot of the category stands, and the first of them
+pub none_more : (c : ℕ) (slots : List Piece) (k : ℕ) → k < length slots → AllByRecursion (λ (p : SlotRange). p.cat.0 ≢ c) (map slot_range (take k slots))
+    → (get_or slots k no_piece).cat.0 ≢ c → AllByRecursion (λ (p : SlotRange). p.cat.0 ≢ c) (map slot_range (take (k + 1) slots))
+none_more c slots k lt none differs = all_more slot_range (λ (p : SlotRange). p.cat.0 ≢ c) slots k no_piece lt none differs
+
+pub place_here : (c : ℕ) (slots : List Piece) (k : ℕ) → k < length slots → AllByRecursion (λ (p : SlotRange). p.cat.0 ≢ c) (map slot_range (take k slots))
+    → (get_or slots k no_piece).cat.0 ≡ c → IsContextPlace c k (map slot_range slots)
+place_here c slots k lt none same =
+    place_found c k (map slot_range slots) (slot_range (get_or slots k no_piece)) (subst (AllByRecursion (λ (p : SlotRange). p.cat.0 ≢ c)) (pieces_front slots k) none)
+    (piece_at slots k lt) same
+
+module _ (sig : Signature) (scope : ReadingScope) (metas : List MetaDecl) (ts : List Token) (c : CatId) (k place : ℕ) (slots : List Piece) (s : ContextShape) where
+  abbrev vars : List Variable
+  vars = shape_variables sig scope c.0 s
+
+  -- the readings around a context of that shape, whose slot is the piece at the place
+  abbrev pub AreAround : List AroundContext → Type 0
+  AreAround = AreFirst IsBefore (λ w a. (us : Ways) × IsAroundInShape sig scope metas ts c k place (map slot_range slots) s us w a)
+
+  pub pieces_around : (xs : List Parts) (ys : List WrittenContext) (zs : List Parts) (found : List AroundContext)
+      → AreFirst AreBefore (ReadsPieces sig metas ts vars [] (map slot_range (take place slots))) xs → AreFirst IsBefore (ReadsInShape sig scope metas ts c s) ys
+      → AreFirst AreBefore (ReadsPieces sig metas ts vars [] (map slot_range (take (length slots - (place + 1)) (drop (place + 1) slots)))) zs
+      → found ≡ paired beside (map bare xs) (paired beside ys (map bare zs)) → AreAround found
+  pieces_around xs ys zs found f g h e =
+      subst AreAround (sym e)
+      (shape_read sig scope metas ts c k place (map slot_range slots) s xs ys zs
+      (subst (λ ps. AreFirst AreBefore (ReadsPieces sig metas ts vars [] ps) xs) (pieces_front slots place) f) g
+      (subst (λ ps. AreFirst AreBefore (ReadsPieces sig metas ts vars [] ps) zs) (pieces_behind slots place) h))
+
+  pub fronts_around : (found : List AroundContext) → AreAround found → AllByRecursion (HasFront sig metas ts vars (map slot_range (take place slots))) found
+  fronts_around found f =
+      subst (λ ps. AllByRecursion (HasFront sig metas ts vars ps) found) (sym (pieces_front slots place))
+      (have_fronts sig scope metas ts c k place (map slot_range slots) s found f)
+
+  pub placed_around : (found : List AroundContext) (new : List (WrittenForm × Ways)) → AreAround found
+      → AreTold (IsPlacedAs sig metas ts vars k (map slot_range (take place slots))) found new
+      → AreFirstAt IsBefore (IsReadInShape sig scope metas ts c k place (map slot_range slots) s) new
+  placed_around found new f told =
+      shape_placed sig scope metas ts c k place (map slot_range slots) s found new f
+      (subst (λ ps. AreTold (IsPlacedAs sig metas ts vars k ps) found new) (pieces_front slots place) told)
+
+-- the readings in all shapes of the piece at the place are those of the slots
+pub pieces_read : (sig : Signature) (scope : ReadingScope) (metas : List MetaDecl) (ts : List Token) (c : CatId) (k place : ℕ) (slots : List Piece) (all : List ContextShape) (found : List (WrittenForm × Ways))
+    → place < length slots → IsContextPlace c.0 place (map slot_range slots) → AreShapes sig scope metas ts c (get_or slots place no_piece).from (get_or slots place no_piece).to all
+    → AreFirstAt IsBefore (IsReadInShapes sig scope metas ts c k place (map slot_range slots) all) found
+    → AreFirst IsBefore (IsReadInSlots sig scope metas ts c k (map slot_range slots)) (map (λ a. a.0) found)
+pieces_read sig scope metas ts c k place slots all found lt here shapes f =
+    AreFirst-same IsBefore (λ w x. (us : Ways) × IsReadInShapes sig scope metas ts c k place (map slot_range slots) all us w x) (IsReadInSlots sig scope metas ts c k (map slot_range slots)) (map (λ a. a.0) found)
+    (shapes_read sig scope metas ts c k place (map slot_range slots) (slot_range (get_or slots place no_piece)) all shapes here (piece_at slots place lt))
+    (first_alone IsBefore (IsReadInShapes sig scope metas ts c k place (map slot_range slots) all) found f)

@@ -5,7 +5,7 @@ use Rattle.binding_terms.specs.Signature.{Signature}
 use Rattle.scheme_terms.specs.Forms.{KnownVariable}
 use Rattle.scheme_terms.specs.View.{known_variable}
 use Rattle.scheme_terms.specs.declared.scheme.MetaDecl.{MetaDecl}
-use Rattle.rule_schemes.specs.Reading.{Token, ReadingScope}
+use Rattle.rule_schemes.specs.Reading.{Token, ReadingScope, fresh_names}
 use Rattle.rule_schemes.specs.NewNames.{IsNewMeta}
 use Rattle.rule_schemes.specs.Said.{Want, Written, Said, Reads, Way, IsBefore, ReadsAs, IsFirstWithout, way_of_wanted}
 use Rattle.rule_schemes.specs.declared.rule.Judgment.{Judgment}
@@ -16,9 +16,10 @@ use Rattle.term_reader.specs.Names.{NamesApart}
 use Rattle.notation_parser.specs.Answer.{IsAnswer}
 use Rattle.notation_parser.specs.Ordered.{ReadsWantedAt}
 use Rattle.notation_parser.specs.Plain.{IsReadableOver}
-use Rattle.notation_parser.specs.Used.{Says, TellsUsed, MayBeNew, KnownsInScope}
+use Rattle.notation_parser.specs.Used.{Says, TellsUsed, MayBeNew, KnownsStand}
 use Rattle.notation_parser.specs.View.{written, what_is_said}
-use Rattle.notation_parser.proofs.Firsts.{AreTold, first_told}
+use Rattle.notation_parser.proofs.Firsts.{first_told}
+use Rattle.notation_parser.specs.Fronts.{AreTold}
 use Rattle.notation_parser.proofs.Saying.{SaidAt, said_there, said_back, says_once, says_apart}
 use Rattle.notation_parser.proofs.Telling.{first_of_two, second_of_two, only_want, wanted_at}
 
@@ -29,7 +30,7 @@ TellsSaid (a ∷ []) (One w ms ks) = record { written = written w; metas = ms; k
 TellsSaid (a ∷ (b ∷ [])) (Ambiguous x y) = (what_is_said x ≡ a) × (what_is_said y ≡ b)
 TellsSaid _ _ = ⊥
 
-module _ (sig : Signature) (js : List Judgment) (scope : ReadingScope) (want : Want) (ts : List Token) (candidates : List MetaDecl) (may : MayBeNew sig scope ts candidates) (knowns : KnownsInScope scope) where
+module _ (sig : Signature) (js : List Judgment) (scope : ReadingScope) (want : Want) (ts : List Token) (candidates : List MetaDecl) (may : MayBeNew sig scope ts candidates) (knowns : scope.fresh ≡ fresh_names → KnownsStand scope) where
   abbrev At : Way → Said → Type 0
   At = SaidAt sig js scope want ts candidates may knowns
 
@@ -122,4 +123,4 @@ names_apart_all sig scope ts candidates (inr h) k =
 
 -- what is asked for of other names
 pub readable_over : (js : List Judgment) (scope : ReadingScope) (metas others : List MetaDecl) → IsReadableOver js scope metas → NamesApart others → IsReadableOver js scope others
-readable_over js scope metas others h k = record { names = k; one_context = h.one_context; first = h.first; writes = h.writes }
+readable_over js scope metas others h k = record { names = k; one_context = h.one_context; apart = h.apart }

@@ -1,6 +1,7 @@
--- How a context reads: by the name of its category, by an empty form, or with one entry more, each at its place in the reading order.
+-- How a context reads: by the name of its category, by an empty form, with one entry more, or with a known variable's entry, each at its
+-- place in the reading order.
 -- Held against `ReadsContext` of rule_schemes/specs/Reading.antt.
-use Rattle.std.specs.Prelude.{◌≡◌, ◌⊎◌, ◌<◌, ◌≤◌, ◌+◌, ◌-◌, ℕ, IsTrue, List, [], ◌∷◌, ◌++◌, drop, length, Some, slice_get, slice_index, slice_range, reverse}
+use Rattle.std.specs.Prelude.{◌≡◌, ◌≢◌, ◌⊎◌, ◌<◌, ◌≤◌, ◌+◌, ◌-◌, ℕ, IsTrue, List, [], ◌∷◌, ◌++◌, drop, length, Some, MatchOption, slice_get, slice_index, slice_range, reverse}
 use Rattle.std.specs.List.{AllByRecursion}
 use Rattle.binding_terms.specs.Signature.{Signature, binders, is_empty_form}
 use Rattle.binding_terms.specs.declared.grammar.CatId.{CatId}
@@ -16,7 +17,7 @@ use Rattle.rule_schemes.specs.Said.{Way, way, Ways, no_ways, then_way}
 use Rattle.term_reader.specs.Ordered.{ReadsItemsAt}
 use Rattle.term_reader.specs.Splitting.{Divided, bound_variable, tokens_of}
 use Rattle.term_reader.specs.declared.sheet.Sheet.{Sheet}
-use Rattle.notation_parser.specs.Shapes.{ReadsContextAt, EntryShape, ContextShape, new_entry, entered, AreShapesOf, IsUsable}
+use Rattle.notation_parser.specs.Shapes.{ReadsContextAt, EntryShape, ContextShape, new_entry, scope_entry, entered, AreShapesOf, IsUsable}
 
 -- the tokens are the exact name of the category
 abbrev pub IsCategoryName : Signature → (cat : ℕ) → List Token → Type 0
@@ -80,7 +81,7 @@ IsContextBelow n sig scope metas c ts from to w ctx vars ks =
     IsNamed sig scope c (slice_range ts from to) w ctx vars ks
     ⊎ ((p : ℕ) × (p < n) × IsContextBy sig scope metas c ts from to p w ctx vars ks)
 
--- a reading of the tokens behind the first one as the items of a known variable's entry of that production
+-- a reading of the tokens behind the first one as the items of a new known variable's entry of that production
 pub record IsNewEntryOf (sig : Signature) (scope : ReadingScope) (metas : List MetaDecl) (c : CatId) (ts : List Token) (from to number : ℕ) (items : List Item)
     (w : Way) (ctx : SchemeContext) (vars : List Variable) (ks : List KnownVariable) : Type 0 where
   pub lengths : List ℕ
@@ -97,19 +98,43 @@ pub record IsNewEntryOf (sig : Signature) (scope : ReadingScope) (metas : List M
   pub number_is : IsKnownNumber scope.names.knowns name known
   pub entry : ReadsItemsAt sig metas (known_words sig 0 scope.names.knowns) [] (name ∷ []) items (slice_range ts (from + 1) to) lengths ways parts
 
-abbrev pub IsNewBy : Signature → ReadingScope → List MetaDecl → CatId → List Token → (from to number : ℕ) → Way → SchemeContext → List Variable → List KnownVariable → Type 0
-IsNewBy sig scope metas c ts from to p w ctx vars ks =
+-- a reading of the tokens behind the first one as the items of the entry, of that production, of a known variable of the scope
+pub record IsScopeEntryOf (sig : Signature) (scope : ReadingScope) (metas : List MetaDecl) (c : CatId) (ts : List Token) (from to number : ℕ) (items : List Item)
+    (w : Way) (ctx : SchemeContext) (vars : List Variable) (ks : List KnownVariable) : Type 0 where
+  pub lengths : List ℕ
+  pub ways : Ways
+  pub cat : ℕ
+  pub place : ℕ
+  pub variable : KnownVariable
+  pub parts : Parts
+  pub way_is : w ≡ way (1 + (length sig.prods + number)) lengths ways
+  pub context_is : ctx ≡ record { root = Whole c; entries = [] }
+  pub knowns_are : ks ≡ variable ∷ []
+  pub vars_are : vars ≡ known_words sig 0 scope.names.knowns
+  pub binder_is : binders items ≡ cat ∷ []
+  pub here : slice_get scope.names.knowns place ≡ Some variable
+  pub entry_is : variable.entry ≡ record { prod = number; args = bare parts }
+  pub entry : ReadsItemsAt sig metas (known_words sig 0 scope.names.knowns) [] (variable.name ∷ []) items (slice_range ts (from + 1) to) lengths ways parts
+
+-- the entry of a known variable: in the head of a case of a new one, and elsewhere of one of the scope
+abbrev pub IsKnownEntryOf : Signature → ReadingScope → List MetaDecl → CatId → List Token → (from to number : ℕ) → List Item → Way → SchemeContext → List Variable → List KnownVariable → Type 0
+IsKnownEntryOf sig scope metas c ts from to p items w ctx vars ks =
+    ((scope.fresh ≡ fresh_head) × IsNewEntryOf sig scope metas c ts from to p items w ctx vars ks)
+    ⊎ ((scope.fresh ≢ fresh_head) × IsScopeEntryOf sig scope metas c ts from to p items w ctx vars ks)
+
+abbrev pub IsKnownBy : Signature → ReadingScope → List MetaDecl → CatId → List Token → (from to number : ℕ) → Way → SchemeContext → List Variable → List KnownVariable → Type 0
+IsKnownBy sig scope metas c ts from to p w ctx vars ks =
     (prod : Prod) × (slice_get sig.prods p ≡ Some prod) × (prod.cat.0 ≡ c.0) × IsEntryOver c.0 prod.items
-    × IsNewEntryOf sig scope metas c ts from to p (drop 1 prod.items) w ctx vars ks
+    × IsKnownEntryOf sig scope metas c ts from to p (drop 1 prod.items) w ctx vars ks
 
 -- the first token is a spelling of the category with a digit or prime
 abbrev pub BeginsNewly : Signature → (cat : ℕ) → List Token → (from to : ℕ) → Type 0
 BeginsNewly sig c ts from to = (from < to) × (spelled : List ℕ) × (slice_get ts from ≡ Some (word spelled)) × IsOtherSpelling sig c spelled
 
--- in the head of a case: a known variable's entry of one of the productions below that
-abbrev pub IsNewBelow : (below : ℕ) → Signature → ReadingScope → List MetaDecl → CatId → List Token → (from to : ℕ) → Way → SchemeContext → List Variable → List KnownVariable → Type 0
-IsNewBelow n sig scope metas c ts from to w ctx vars ks =
-    (p : ℕ) × (p < n) × (scope.fresh ≡ fresh_head) × BeginsNewly sig c.0 ts from to × IsNewBy sig scope metas c ts from to p w ctx vars ks
+-- a known variable's entry of one of the productions below that, behind a spelling of the category
+abbrev pub IsKnownBelow : (below : ℕ) → Signature → ReadingScope → List MetaDecl → CatId → List Token → (from to : ℕ) → Way → SchemeContext → List Variable → List KnownVariable → Type 0
+IsKnownBelow n sig scope metas c ts from to w ctx vars ks =
+    (p : ℕ) × (p < n) × BeginsNewly sig c.0 ts from to × IsKnownBy sig scope metas c ts from to p w ctx vars ks
 
 -- the shapes of all readings that have a property, each one that can be read on
 abbrev pub AreListed : Sheet → ReadingScope → CatId → (Way → SchemeContext → List Variable → List KnownVariable → Type 0) → List ContextShape → Type 0
@@ -142,6 +167,22 @@ abbrev pub AreNewShapes : List KnownVariable → (prod : ℕ) → List Divided �
 AreNewShapes ks p [] [] = Unit {0}
 AreNewShapes ks p (d ∷ ds) (s ∷ all) = IsNewShape ks p d s × AreNewShapes ks p ds all
 AreNewShapes ks p _ _ = ⊥
+
+-- the known variable with that number has an entry of that production
+abbrev pub IsEntryBy : List KnownVariable → (number prod : ℕ) → Type 0
+IsEntryBy ks n p = MatchOption (slice_get ks n) ⊥ (λ k. k.entry.prod ≡ p)
+
+-- the shape of a split, where its variable's word is the name of a known variable whose entry is of the production
+abbrev pub IsScopeShape : List KnownVariable → (prod : ℕ) → Divided → List ContextShape → Type 0
+IsScopeShape ks p d all =
+    (n : ℕ) × IsKnownNumber ks (first_variable d.0).word n
+    × ((IsEntryBy ks n p × (all ≡ scope_entry p n d.1 ∷ [])) ⊎ ((IsEntryBy ks n p → ⊥) × (all ≡ [])))
+
+-- those of all splits, split by split
+abbrev pub AreScopeShapes : List KnownVariable → (prod : ℕ) → List Divided → List ContextShape → Type 0
+AreScopeShapes ks p [] all = all ≡ []
+AreScopeShapes ks p (d ∷ ds) all =
+    (some : List ContextShape) × (rest : List ContextShape) × (all ≡ some ++ rest) × IsScopeShape ks p d some × AreScopeShapes ks p ds rest
 
 -- each shape with the entry of each split, split by split
 abbrev pub with_entries : EntryShape → List ContextShape → List ContextShape

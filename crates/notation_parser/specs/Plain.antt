@@ -1,14 +1,15 @@
 -- The forms that are read so far.
-use Rattle.std.specs.Prelude.{◌≡◌, ◌≢◌, ◌==◌, ℕ, List, [], ◌∷◌, None, count_by, MatchOption}
+use Rattle.std.specs.Prelude.{◌≡◌, ◌≢◌, ◌==◌, List, [], None, count_by, MatchOption}
 use Rattle.std.specs.List.{AllByRecursion}
-use Rattle.binding_terms.specs.Signature.{Signature, Place, slots}
+use Rattle.binding_terms.specs.Signature.{Signature, slots}
 use Rattle.scheme_terms.specs.declared.scheme.MetaDecl.{MetaDecl}
-use Rattle.rule_schemes.specs.Reading.{ReadingScope, not_fresh}
+use Rattle.rule_schemes.specs.Reading.{ReadingScope, not_fresh, fresh_names}
 use Rattle.rule_schemes.specs.Said.{Want, want_term, want_judgment, want_context}
 use Rattle.rule_schemes.specs.declared.rule.Judgment.{Judgment}
 use Rattle.term_reader.specs.Names.{NamesApart}
 use Rattle.notation_parser.specs.Candidates.{IsSpelledOnce}
-use Rattle.notation_parser.specs.Shapes.{WritesNoKnown}
+use Rattle.notation_parser.specs.Shapes.{KnownsApart}
+use Rattle.notation_parser.specs.Used.{KnownsStand}
 
 -- no category has variables, no two metavariables have one name, and no metavariable has parameters
 pub record NothingBinds (sig : Signature) (metas : List MetaDecl) : Type 0 where
@@ -25,37 +26,19 @@ IsNoContext (want_context c) = ⊥
 abbrev pub HasOneContext : Judgment → Type 0
 HasOneContext j = MatchOption j.ctx (Unit {0}) (λ c. count_by (λ s. s.cat == c.0) (slots j.items) ≡ 1)
 
--- the first of the slots is of the category
-abbrev pub BeginsWith : (cat : ℕ) → List Place → Type 0
-BeginsWith c [] = ⊥
-BeginsWith c (s ∷ ss) = s.cat ≡ c
-
-abbrev pub IsContextFirst : Judgment → Type 0
-IsContextFirst j = MatchOption j.ctx (Unit {0}) (λ c. BeginsWith c.0 (slots j.items))
-
--- the first of the slots is of the category, and no other
-abbrev pub IsOneAtFront : (cat : ℕ) → List Place → Type 0
-IsOneAtFront c [] = ⊥
-IsOneAtFront c (s ∷ ss) = (s.cat ≡ c) × AllByRecursion (λ t. t.cat ≢ c) ss
-
--- In the form of a judgment that assumes a context, the context's slot stands before all other slots. To go: other forms are read
--- by the same relation.
-pub record HasContextFirst (js : List Judgment) : Type 0 where
-  pub forms : AllByRecursion IsContextFirst js
-
--- What is read so far over some metavariables: no two of them have one name, a judgment that assumes a context has one slot of it, which
--- stands before all others, and no known variable of the scope is written.
+-- What is read so far over some metavariables: no two of them have one name, nor two known variables of the scope, and a judgment that
+-- assumes a context has one slot of it.
 pub record IsReadableOver (js : List Judgment) (scope : ReadingScope) (metas : List MetaDecl) : Type 0 where
   pub names : NamesApart metas
   pub one_context : AllByRecursion HasOneContext js
-  pub first : HasContextFirst js
-  pub writes : WritesNoKnown scope
+  pub apart : KnownsApart scope.names.knowns
 
--- What is read so far: what is read over the names of the scope, in which no known variable is; and where new names may stand in the
--- form, no word is a spelling of two categories or of the variables of two.
+-- What is read so far: what is read over the names of the scope. Where new metavariables may stand in the form, no word is a spelling
+-- of two categories or of the variables of two; and outside the head of a case the known variables' entries are then written over the
+-- metavariables of the scope.
 pub record IsReadable (sig : Signature) (js : List Judgment) (scope : ReadingScope) : Type 0 where
   pub over : IsReadableOver js scope scope.names.metas
-  pub knowns : scope.names.knowns ≡ []
+  pub stand : scope.fresh ≡ fresh_names → KnownsStand scope
   pub once : scope.fresh ≢ not_fresh → IsSpelledOnce sig
 
 -- Forms in which nothing binds: no judgment assumes a context, no variable is in scope, and no new name

@@ -1,6 +1,5 @@
 -- Metavariables numbered anew, in schemes and in what forms say. Held against docs/notation.md on readings.
 use Rattle.std.specs.Prelude.{◌≡◌, ◌⊎◌, ℕ, ◌<◌, List, length, map, Some, slice_get}
-use Rattle.std.specs.List.{AllByRecursion}
 use Rattle.binding_terms.specs.Numbered.{AnyByRecursion}
 use Rattle.scheme_terms.specs.SchemeTree.{SchemeTree, meta, known, local, con, Values, no_values, value, Parts, no_parts, part, OccursIn}
 use Rattle.scheme_terms.specs.Forms.{SchemeEntry, SchemeContext, KnownVariable}
@@ -62,9 +61,9 @@ abbrev pub KeepsUsed : (ℕ → ℕ) → (metas others : List MetaDecl) → (Occ
 KeepsUsed new metas others Occurs =
     (m : ℕ) (decl : MetaDecl) → Occurs m → slice_get metas m ≡ Some decl → slice_get others (new m) ≡ Some decl
 
--- the entries of the known variables stay as they are
-abbrev pub KeepsKnowns : (ℕ → ℕ) → List KnownVariable → Type 0
-KeepsKnowns new knowns = AllByRecursion (λ k. renamed_known new k ≡ k) knowns
+-- each of the names that stands in the entry of a known variable keeps its number
+abbrev pub KeepsKnowns : (ℕ → ℕ) → (metas : List MetaDecl) → List KnownVariable → Type 0
+KeepsKnowns new metas knowns = (m : ℕ) → OccursInKnowns m knowns → m < length metas → new m ≡ m
 
 -- a scope with other metavariables
 abbrev pub with_metas : ReadingScope → List MetaDecl → ReadingScope

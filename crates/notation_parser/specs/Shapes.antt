@@ -1,7 +1,7 @@
 -- The readings of contexts by their shapes. The shape of a reading says how the context begins, which production each entry is of and
 -- how the tokens are split among the entries and their slots; it leaves open what the slots read as. The variables in scope depend
 -- on the shape alone. Held against `ReadsContext` of rule_schemes/specs/Reading.antt and `way_of_context` of rule_schemes/specs/Said.antt.
-use Rattle.std.specs.Prelude.{◌≡◌, ◌≢◌, ℕ, ◌+◌, List, [], ◌∷◌, ◌++◌, length, map, slice_range}
+use Rattle.std.specs.Prelude.{◌≡◌, ◌≢◌, ℕ, ◌+◌, List, [], ◌∷◌, ◌++◌, length, map, Some, slice_get, slice_range}
 use Rattle.std.specs.List.{Contains, AllByRecursion}
 use Rattle.binding_terms.specs.Signature.{Signature}
 use Rattle.binding_terms.specs.declared.grammar.CatId.{CatId}
@@ -10,7 +10,7 @@ use Rattle.scheme_terms.specs.Forms.{SchemeContext, KnownVariable}
 use Rattle.scheme_terms.specs.View.{scheme_context, known_variable}
 use Rattle.scheme_terms.specs.declared.scheme.MetaDecl.{MetaDecl}
 use Rattle.scheme_terms.specs.declared.scheme.Root.TheVariants.{Whole, Empty}
-use Rattle.rule_schemes.specs.Reading.{Token, Variable, ReadingScope, fresh_head, known_words, with_root, bare, ReadsContext}
+use Rattle.rule_schemes.specs.Reading.{Token, Variable, ReadingScope, known_words, with_root, bare, ReadsContext}
 use Rattle.rule_schemes.specs.Said.{Way, way, Ways, no_ways, then_way, IsBefore, way_of_context}
 use Rattle.term_reader.specs.Splitting.{SlotRange, slot_range, lengths, AreKnown, AreWithin, ReadsPieces}
 use Rattle.term_reader.specs.View.{variable}
@@ -18,6 +18,7 @@ use Rattle.term_reader.specs.declared.sheet.Sheet.{Sheet}
 use Rattle.notation_parser.specs.declared.shaping.Start.{Start}
 use Rattle.notation_parser.specs.declared.shaping.Start.TheVariants as starts
 use Rattle.notation_parser.specs.declared.shaping.Entered.{Entered}
+use Rattle.notation_parser.specs.declared.shaping.KnownEntry.{KnownEntry}
 use Rattle.notation_parser.specs.declared.shaping.Shape.{Shape}
 use Rattle.notation_parser.specs.declared.contexts.Context.{Context}
 
@@ -32,12 +33,13 @@ pub record EntryShape : Type 0 where
   pub variable : Variable
   pub slots : List SlotRange
 
--- The shape of a context: the name of its category, an empty form's production, or the entry of a known variable that the context
--- writes; and entries after one another.
+-- The shape of a context: the name of its category, an empty form's production, the entry of a new known variable, or that of a known
+-- variable of the scope, with its production, its number and its slots; and entries after one another.
 pub data ContextShape : Type 0 where
   named : ContextShape
   empty : (prod : ℕ) → ContextShape
   new_entry : EntryShape → ContextShape
+  scope_entry : (prod number : ℕ) → List SlotRange → ContextShape
   entered : ContextShape → EntryShape → ContextShape
 
 -- the variables that are in scope after a context of that shape
@@ -45,6 +47,7 @@ abbrev pub shape_variables : Signature → ReadingScope → (cat : ℕ) → Cont
 shape_variables sig scope c named = with_root scope.names.root c scope.vars (known_words sig 0 scope.names.knowns)
 shape_variables sig scope c (empty p) = known_words sig 0 scope.names.knowns
 shape_variables sig scope c (new_entry e) = e.variable ∷ known_words sig 0 scope.names.knowns
+shape_variables sig scope c (scope_entry p n ps) = known_words sig 0 scope.names.knowns
 shape_variables sig scope c (entered s e) = e.variable ∷ shape_variables sig scope c s
 
 -- a context, and the known variable that it writes
@@ -60,13 +63,23 @@ abbrev pub new_context : CatId → EntryShape → List SchemeTree → WrittenCon
 new_context c e ss =
     (record { root = Whole c; entries = [] }, record { name = e.variable.word; entry = record { prod = e.prod; args = ss } } ∷ [])
 
--- A reading of a context of exactly this shape, at the place: each entry's slots read under the variables of the shorter context.
+-- the whole context, and a known variable
+abbrev pub whole_with : CatId → KnownVariable → WrittenContext
+whole_with c k = (record { root = Whole c; entries = [] }, k ∷ [])
+
+-- A reading of a context of exactly this shape, at the place: each entry's slots read under the variables of the shorter context, and
+-- those of a known variable of the scope as its own entry.
 abbrev pub ReadsInShape : Signature → ReadingScope → List MetaDecl → List Token → CatId → ContextShape → Way → WrittenContext → Type 0
 ReadsInShape sig scope metas ts c named w x = (w ≡ way 0 [] no_ways) × (x ≡ (record { root = Whole c; entries = [] }, []))
 ReadsInShape sig scope metas ts c (empty p) w x = (w ≡ way (1 + p) [] no_ways) × (x ≡ (record { root = Empty c; entries = [] }, []))
 ReadsInShape sig scope metas ts c (new_entry e) w x =
     (ws : Ways) × (xs : Parts) × (w ≡ way (1 + (length sig.prods + e.prod)) (lengths e.slots) ws) × (x ≡ new_context c e (bare xs))
     × ReadsPieces sig metas ts (known_words sig 0 scope.names.knowns) [] e.slots ws xs
+ReadsInShape sig scope metas ts c (scope_entry p n ps) w x =
+    (ws : Ways) × (xs : Parts) × (k : KnownVariable)
+    × (w ≡ way (1 + (length sig.prods + p)) (lengths ps) ws) × (x ≡ whole_with c k)
+    × (slice_get scope.names.knowns n ≡ Some k) × (k.entry ≡ record { prod = p; args = bare xs })
+    × ReadsPieces sig metas ts (known_words sig 0 scope.names.knowns) [] ps ws xs
 ReadsInShape sig scope metas ts c (entered s e) w x =
     (v : Way) × (ws : Ways) × (y : WrittenContext) × (xs : Parts)
     × (w ≡ way (1 + e.prod) (e.before ∷ lengths e.slots) (then_way v ws)) × (x ≡ with_entry e.prod y (bare xs))
@@ -104,6 +117,7 @@ abbrev pub IsUsable : Sheet → ContextShape → Type 0
 IsUsable sheet named = Unit {0}
 IsUsable sheet (empty p) = Unit {0}
 IsUsable sheet (new_entry e) = AreKnown sheet (e.variable ∷ []) × AreWithin (length sheet.tokens.now) e.slots
+IsUsable sheet (scope_entry p n ps) = AreWithin (length sheet.tokens.now) ps
 IsUsable sheet (entered s e) = IsUsable sheet s × AreKnown sheet (e.variable ∷ []) × AreWithin (length sheet.tokens.now) e.slots
 
 -- the variables of the scope that the chart allows
@@ -115,18 +129,18 @@ abbrev pub KnownsApart : List KnownVariable → Type 0
 KnownsApart [] = Unit {0}
 KnownsApart (k ∷ ks) = AllByRecursion (λ l. k.name ≢ l.name) ks × KnownsApart ks
 
--- What is read so far: known variables are told apart, and none is written that the scope has. The second is to go.
-abbrev pub WritesNoKnown : ReadingScope → Type 0
-WritesNoKnown scope = (scope.fresh ≢ fresh_head → scope.names.knowns ≡ []) × KnownsApart scope.names.knowns
-
 -- what contracts see of shapes and of contexts
 abbrev pub entry_shape : Entered → EntryShape
 entry_shape e = record { prod = e.prod.0; before = e.before; variable = variable e.variable; slots = map slot_range e.slots }
+
+abbrev pub scope_entry_shape : KnownEntry → ContextShape
+scope_entry_shape e = scope_entry e.prod.0 e.number (map slot_range e.slots)
 
 abbrev pub begun : Start → ContextShape
 begun starts.Name = named
 begun (starts.Empty p) = empty p.0
 begun (starts.New e) = new_entry (entry_shape e)
+begun (starts.Known e) = scope_entry_shape e
 
 -- a shape with entries after it
 abbrev pub grown : ContextShape → List EntryShape → ContextShape

@@ -57,6 +57,6 @@ MayBeNew sig scope tokens candidates =
     ((scope.fresh ≡ not_fresh) × (candidates ≡ []))
     ⊎ ((scope.fresh ≢ not_fresh) × AreCandidates sig scope.names.metas tokens candidates)
 
--- no other metavariable than the scope's stands in the entry of a known variable
-abbrev pub KnownsInScope : ReadingScope → Type 0
-KnownsInScope scope = (m : ℕ) → OccursInKnowns m scope.names.knowns → m < length scope.names.metas
+-- the entries of known variables are written over the metavariables of the scope
+pub record KnownsStand (scope : ReadingScope) : Type 0 where
+  pub within : (m : ℕ) → OccursInKnowns m scope.names.knowns → m < length scope.names.metas

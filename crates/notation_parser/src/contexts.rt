@@ -1,21 +1,22 @@
 // The readings of contexts: those in one shape, and the variables that are in scope after it.
 ghost use Rattle.std.specs.Prelude.{◌≡◌, ◌++◌, IfOk, IsTrue, List, [], ◌∷◌, map, length, if◌then◌else◌};
-ghost use Rattle.scheme_terms.specs.View.{scheme_parts};
+ghost use Rattle.scheme_terms.specs.View.{scheme_parts, known_variable};
 ghost use Rattle.rule_schemes.specs.Reading.{Variable, with_root, bare};
 ghost use Rattle.rule_schemes.specs.Said.{IsBefore};
 ghost use Rattle.term_reader.specs.Firsts.{listed, AreFirst, paired};
 ghost use Rattle.term_reader.specs.Splitting.{IsSheet, AreKnown, tokens_of};
 ghost use Rattle.term_reader.specs.View.{in_scope};
-ghost use Rattle.notation_parser.specs.Shapes.{named, new_entry, new_context, IsUsable, IsScopeKnown, ReadsInShape, begun, entry_shape, context_shape, shape_variables, with_entry, written_context};
+ghost use Rattle.notation_parser.specs.Shapes.{named, new_entry, new_context, IsUsable, IsScopeKnown, ReadsInShape, whole_with, begun, entry_shape, scope_entry_shape, context_shape, shape_variables, with_entry, written_context};
 ghost use Rattle.notation_parser.specs.View.{reading_scope};
 
-use crate::copies::knowns_again;
+use crate::copies::{known_again, knowns_again};
 use crate::knowns::known_variables;
-use crate::shaping::{Entered, Shape, Start};
+use crate::shaping::{Entered, KnownEntry, Shape, Start};
 use binding_terms::{CatId, NoMemory, ProdId, Text};
+use reading_places::places_of;
 use rule_schemes::ReadScope;
 use scheme_terms::{KnownDecl, Root, SArg, SCtx, SEntry, copy_entry};
-use sqlite_items::Items;
+use sqlite_items::{Items, at};
 use std::alloc::Global;
 use term_reader::{Firsts, Sheet, Var, bodies, parts, scope_variables};
 
@@ -166,6 +167,54 @@ fn new_contexts<'a>(
     with_knowns(alloc, cat, entry, slots)
 }
 
+/// The whole context, with that known variable.
+fn with_scope_known(alloc: Global, cat: CatId, known: &KnownDecl) -> Result<Context, NoMemory>
+    ensures { IfOk result (λ new. written_context new ≡ whole_with cat (known_variable known.now)) }
+{
+    let mut context = rooted(alloc, Root::Whole(cat));
+    context.knowns.push(known_again(alloc, known)?)?;
+    Ok(context)
+}
+
+/// The reading with the known variable of the scope, where the slots read as its own entry.
+fn scope_contexts<'a>(
+    alloc: Global,
+    sheet: &Sheet<'a>,
+    scope: &'a ReadScope,
+    cat: CatId,
+    entry: &KnownEntry<'a>,
+) -> Result<Firsts<Context>, NoMemory>
+    requires sheet { IsSheet sheet.now }
+    requires scope { IsScopeKnown sheet.now (reading_scope scope.now) }
+    requires usable { IsUsable sheet.now (scope_entry_shape entry.now) }
+    ensures { IfOk result
+        (λ found. AreFirst IsBefore
+        (ReadsInShape sheet.now.sig.now (reading_scope scope.now) sheet.now.metas.now (tokens_of sheet.now) cat (scope_entry_shape entry.now))
+        (listed written_context found)) }
+{
+    let knowns = scope.scope.knowns.as_slice();
+    let Some(known) = at(knowns, entry.number) else {
+        return Ok(Firsts::Nothing);
+    };
+    if known.entry.prod.0 != entry.prod.0 {
+        return Ok(Firsts::Nothing);
+    }
+    let vars = known_variables(alloc, sheet.sig, knowns)?;
+    let args = known.entry.args.as_slice();
+    let places = places_of(
+        alloc,
+        sheet,
+        vars.as_slice(),
+        &[],
+        entry.slots.as_slice(),
+        args,
+    )?;
+    if places.is_none() {
+        return Ok(Firsts::Nothing);
+    }
+    Ok(Firsts::One(with_scope_known(alloc, cat, known)?))
+}
+
 /// The first two readings of the beginning of a context.
 fn begin<'a>(
     alloc: Global,
@@ -186,6 +235,7 @@ fn begin<'a>(
         Start::Name => Ok(Firsts::One(rooted(alloc, Root::Whole(cat)))),
         Start::Empty(_) => Ok(Firsts::One(rooted(alloc, Root::Empty(cat)))),
         Start::New(entry) => new_contexts(alloc, sheet, scope, cat, entry),
+        Start::Known(entry) => scope_contexts(alloc, sheet, scope, cat, entry),
     }
 }
 
@@ -248,6 +298,7 @@ fn start_scope<'a>(
         Start::Name => root_scope(alloc, sheet, scope, cat),
         Start::Empty(_) => known_variables(alloc, sheet.sig, scope.scope.knowns.as_slice()),
         Start::New(entry) => new_scope(alloc, sheet, scope, cat, entry),
+        Start::Known(_) => known_variables(alloc, sheet.sig, scope.scope.knowns.as_slice()),
     }
 }
 

@@ -46,7 +46,7 @@ pub fn context_again(alloc: Global, ctx: &SCtx) -> Result<SCtx, NoMemory>
     })
 }
 
-fn known_again(alloc: Global, known: &KnownDecl) -> Result<KnownDecl, NoMemory>
+pub fn known_again(alloc: Global, known: &KnownDecl) -> Result<KnownDecl, NoMemory>
     ensures { IfOk result (λ new. known_variable new ≡ known_variable known.now) }
 {
     Ok(KnownDecl {

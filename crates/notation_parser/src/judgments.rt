@@ -1,30 +1,28 @@
 // The readings of judgments. A judgment without a context is kept as the product of its form with its parts, and so is its number;
-// in one with a context, the context's slot comes first.
-ghost use Rattle.std.specs.Prelude.{◌≡◌, ◌↔◌, ◌<◌, [], IfOk, IsTrue, Some, map, length};
+// in one with a context, the slot of its category takes the context.
+ghost use Rattle.std.specs.Prelude.{◌≡◌, ◌==◌, ◌↔◌, ◌<◌, [], IfOk, IsTrue, Some, count_by, map, length};
 ghost use Rattle.std.specs.List.{AllByRecursion};
 ghost use Rattle.binding_terms.specs.Signature.{Fits, binders, slots};
-ghost use Rattle.scheme_terms.specs.View.{scheme, scheme_parts};
+ghost use Rattle.scheme_terms.specs.View.{scheme};
 ghost use Rattle.scheme_terms.specs.declared.scheme.Root.TheVariants.{Closed};
-ghost use Rattle.rule_schemes.specs.Reading.{bare, known_words};
+ghost use Rattle.rule_schemes.specs.Reading.{known_words};
 ghost use Rattle.rule_schemes.specs.Said.{IsBefore};
-ghost use Rattle.term_reader.specs.Firsts.{listed, AreFirst, paired};
-ghost use Rattle.term_reader.specs.Splitting.{IsSheet, AreKnown, AreWithin, slot_range, tokens_of};
+ghost use Rattle.term_reader.specs.Firsts.{listed, AreFirst};
+ghost use Rattle.term_reader.specs.Splitting.{IsSheet, AreKnown, tokens_of};
 ghost use Rattle.term_reader.specs.View.{in_scope};
-ghost use Rattle.notation_parser.specs.Forms.{IsFormOf, closed_form, judged, IsReadInShape, IsReadInSlots, IsOpenForm, IsReadAs, IsReadAsAny};
-ghost use Rattle.notation_parser.specs.Plain.{HasOneContext, HasContextFirst, IsOneAtFront};
-ghost use Rattle.notation_parser.specs.Shapes.{IsScopeKnown, IsUsable, WritesNoKnown, context_shape, written_context};
+ghost use Rattle.notation_parser.specs.Forms.{IsFormOf, closed_form, judged, IsOpenForm, IsReadAs, IsReadAsAny};
+ghost use Rattle.notation_parser.specs.Plain.{HasOneContext};
+ghost use Rattle.notation_parser.specs.Shapes.{IsScopeKnown, KnownsApart};
 ghost use Rattle.notation_parser.specs.View.{outcome, reading_scope};
 
-use crate::contexts::{Context, in_shape, shape_scope};
-use crate::copies::{context_again, knowns_again};
+use crate::in_context::in_slots;
 use crate::outcomes::{Outcome, are_two, both};
-use crate::shaping::{Shape, shapes};
 use binding_terms::{CatId, Item, NoMemory, ProdId};
 use rule_schemes::{JScheme, JudgId, Judgment, ReadScope, Written};
-use scheme_terms::{Root, SArg, SCtx, Scheme};
+use scheme_terms::{Root, SCtx, Scheme};
 use sqlite_items::Items;
 use std::alloc::Global;
-use term_reader::{Firsts, Head, Piece, Sheet, Var, bodies, in_splits, number, parts, splits};
+use term_reader::{Firsts, Head, Sheet, Var, bodies, in_splits, number, splits};
 
 /// Whether no binder stands among the items.
 fn writes_nothing(items: &[Item]) -> bool
@@ -101,118 +99,6 @@ fn as_judgments(alloc: Global, found: Firsts<Scheme>) -> Result<Firsts<Outcome>,
     }
 }
 
-/// The judgment with that number over the context, with these parts.
-fn over_context(
-    alloc: Global,
-    number: u32,
-    context: &Context,
-    parts: &[SArg],
-) -> Result<Outcome, NoMemory>
-    ensures { IfOk result (λ new. outcome new ≡ judged number (written_context context.now) (bare (scheme_parts parts.now))) }
-{
-    let ctx = context_again(alloc, &context.ctx)?;
-    let knowns = knowns_again(alloc, context.knowns.as_slice())?;
-    let args = bodies(alloc, parts)?;
-    Ok(Outcome {
-        written: Written::Judgment(JScheme {
-            judgment: JudgId(number),
-            ctx,
-            args,
-        }),
-        knowns,
-    })
-}
-
-/// Each of the contexts with each of the parts after it, the first two of these.
-fn over_contexts(
-    alloc: Global,
-    number: u32,
-    contexts: Firsts<Context>,
-    found: Firsts<Items<SArg>>,
-) -> Result<Firsts<Outcome>, NoMemory>
-    ensures { IfOk result
-        (λ new. listed outcome new ≡ paired (judged number) (listed written_context contexts) (map bare (listed scheme_parts found))) }
-{
-    match (contexts, found) {
-        (Firsts::Nothing, _) => Ok(Firsts::Nothing),
-        (_, Firsts::Nothing) => Ok(Firsts::Nothing),
-        (Firsts::One(x), Firsts::One(a)) => {
-            Ok(Firsts::One(over_context(alloc, number, &x, a.as_slice())?))
-        }
-        (Firsts::Two(x, y), Firsts::One(a)) => Ok(Firsts::Two(
-            over_context(alloc, number, &x, a.as_slice())?,
-            over_context(alloc, number, &y, a.as_slice())?,
-        )),
-        (Firsts::One(x), Firsts::Two(a, b)) => Ok(Firsts::Two(
-            over_context(alloc, number, &x, a.as_slice())?,
-            over_context(alloc, number, &x, b.as_slice())?,
-        )),
-        (Firsts::Two(x, _), Firsts::Two(a, b)) => Ok(Firsts::Two(
-            over_context(alloc, number, &x, a.as_slice())?,
-            over_context(alloc, number, &x, b.as_slice())?,
-        )),
-    }
-}
-
-/// The readings whose context has that shape.
-fn in_one_shape<'a>(
-    alloc: Global,
-    sheet: &Sheet<'a>,
-    scope: &'a ReadScope,
-    cat: CatId,
-    number: u32,
-    slots: &[Piece<'a>],
-    shape: &Shape<'a>,
-) -> Result<Firsts<Outcome>, NoMemory>
-    requires sheet { IsSheet sheet.now }
-    requires scope { IsScopeKnown sheet.now (reading_scope scope.now) }
-    requires within { AreWithin (length sheet.now.tokens.now) (map slot_range slots.now) }
-    requires some { 0 < length slots.now }
-    requires usable { IsUsable sheet.now (context_shape shape.now) }
-    ensures { IfOk result
-        (λ found. AreFirst IsBefore
-        (IsReadInShape sheet.now.sig.now (reading_scope scope.now) sheet.now.metas.now (tokens_of sheet.now) cat number (map slot_range slots.now) (context_shape shape.now))
-        (listed outcome found)) }
-{
-    let contexts = in_shape(alloc, sheet, scope, cat, shape)?;
-    let vars = shape_scope(alloc, sheet, scope, cat, shape)?;
-    let found = parts(alloc, sheet, vars.as_slice(), &[], &slots[1..])?;
-    over_contexts(alloc, number, contexts, found)
-}
-
-/// The readings whose slots take these tokens, the first one as a context.
-fn in_slots<'a>(
-    alloc: Global,
-    sheet: &Sheet<'a>,
-    scope: &'a ReadScope,
-    cat: CatId,
-    number: u32,
-    slots: &[Piece<'a>],
-) -> Result<Firsts<Outcome>, NoMemory>
-    requires sheet { IsSheet sheet.now }
-    requires scope { IsScopeKnown sheet.now (reading_scope scope.now) }
-    requires writes { WritesNoKnown (reading_scope scope.now) }
-    requires within { AreWithin (length sheet.now.tokens.now) (map slot_range slots.now) }
-    ensures { IfOk result
-        (λ found. AreFirst IsBefore
-        (IsReadInSlots sheet.now.sig.now (reading_scope scope.now) sheet.now.metas.now (tokens_of sheet.now) cat number (map slot_range slots.now))
-        (listed outcome found)) }
-{
-    let mut found = Firsts::Nothing;
-    if slots.len() == 0 {
-        return Ok(found);
-    }
-    let all = shapes(alloc, sheet, scope, cat, slots[0].from, slots[0].to)?;
-    for shape in all.as_slice() {
-        if are_two(&found) {
-            return Ok(found);
-        }
-        let more = in_one_shape(alloc, sheet, scope, cat, number, slots, shape)?;
-        found = both(found, more);
-    }
-    Ok(found)
-}
-
 /// The readings over a context of the category by a form with these items.
 fn open<'a>(
     alloc: Global,
@@ -225,8 +111,8 @@ fn open<'a>(
     requires sheet { IsSheet sheet.now }
     requires asks { sheet.now.contexts ≡ Some cat }
     requires scope { IsScopeKnown sheet.now (reading_scope scope.now) }
-    requires writes { WritesNoKnown (reading_scope scope.now) }
-    requires one { IsOneAtFront cat.0 (slots items.now) }
+    requires apart { KnownsApart (reading_scope scope.now).names.knowns }
+    requires one { count_by (λ s. s.cat == cat.0) (slots items.now) ≡ 1 }
     requires fits { Fits sheet.now.sig.now }
     ensures { IfOk result
         (λ found. AreFirst IsBefore
@@ -274,9 +160,8 @@ fn form<'a>(
     requires sheet { IsSheet sheet.now }
     requires scope { IsScopeKnown sheet.now (reading_scope scope.now) }
     requires vars { in_scope vars.now ≡ known_words sheet.now.sig.now 0 (reading_scope scope.now).names.knowns }
-    requires writes { WritesNoKnown (reading_scope scope.now) }
+    requires apart { KnownsApart (reading_scope scope.now).names.knowns }
     requires one { AllByRecursion HasOneContext judgments.now }
-    requires first { HasContextFirst judgments.now }
     requires fits { Fits sheet.now.sig.now }
     requires number { k < length judgments.now }
     ensures { IfOk result
@@ -307,9 +192,8 @@ pub fn forms<'a>(
     requires sheet { IsSheet sheet.now }
     requires scope { IsScopeKnown sheet.now (reading_scope scope.now) }
     requires vars { in_scope vars.now ≡ known_words sheet.now.sig.now 0 (reading_scope scope.now).names.knowns }
-    requires writes { WritesNoKnown (reading_scope scope.now) }
+    requires apart { KnownsApart (reading_scope scope.now).names.knowns }
     requires one { AllByRecursion HasOneContext judgments.now }
-    requires first { HasContextFirst judgments.now }
     requires fits { Fits sheet.now.sig.now }
     ensures { IfOk result
         (λ found. AreFirst IsBefore

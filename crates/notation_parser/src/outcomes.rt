@@ -16,7 +16,8 @@ pub struct Outcome {
     pub knowns: Items<KnownDecl>,
 }
 
-fn same_outcome(a: &Outcome, b: &Outcome) -> bool
+/// Whether both say the same.
+pub fn same_outcome(a: &Outcome, b: &Outcome) -> bool
     ensures { IsTrue result ↔ (outcome a.now ≡ outcome b.now) }
 {
     same_written(&a.written, &b.written) && same_knowns(a.knowns.as_slice(), b.knowns.as_slice())

@@ -9,7 +9,7 @@ ghost use Rattle.term_reader.specs.View.{in_scope, token};
 ghost use Rattle.notation_parser.specs.Forms.{IsTermRead, written_term, IsContextRead, as_context};
 ghost use Rattle.notation_parser.specs.Ordered.{ReadsWantedAt};
 ghost use Rattle.notation_parser.specs.Plain.{IsReadableOver};
-ghost use Rattle.notation_parser.specs.Shapes.{IsScopeKnown, WritesNoKnown, written_context};
+ghost use Rattle.notation_parser.specs.Shapes.{IsScopeKnown, KnownsApart, written_context};
 ghost use Rattle.notation_parser.specs.View.{outcome, reading_scope, wanted};
 
 use crate::contexts::{Context, in_shape};
@@ -72,7 +72,7 @@ fn contexts<'a>(
 ) -> Result<Firsts<Outcome>, NoMemory>
     requires sheet { IsSheet sheet.now }
     requires scope { IsScopeKnown sheet.now (reading_scope scope.now) }
-    requires writes { WritesNoKnown (reading_scope scope.now) }
+    requires apart { KnownsApart (reading_scope scope.now).names.knowns }
     ensures { IfOk result
         (λ found. AreFirst IsBefore
         (IsContextRead sheet.now.sig.now (reading_scope scope.now) sheet.now.metas.now cat (tokens_of sheet.now))

@@ -4,12 +4,13 @@ ghost use Rattle.scheme_terms.specs.View.{known_variable};
 ghost use Rattle.std.specs.List.{AllByRecursion};
 ghost use Rattle.term_reader.specs.Names.{NamesApart};
 ghost use Rattle.binding_terms.specs.Signature.{Signature, slots};
-ghost use Rattle.notation_parser.specs.Plain.{IsPlain, IsReadable, IsNoContext, HasOneContext, BeginsWith, IsContextFirst, HasContextFirst};
+ghost use Rattle.notation_parser.specs.Plain.{IsPlain, IsReadable, IsNoContext, HasOneContext};
 ghost use Rattle.rule_schemes.specs.Reading.{not_fresh};
 ghost use Rattle.notation_parser.specs.Candidates.{IsSpelledOnce};
 ghost use Rattle.term_reader.specs.View.{scope_words};
 ghost use Rattle.notation_parser.specs.View.{wanted, reading_scope, freshness_of};
 
+use crate::known_scope::{knowns_apart, knowns_stand};
 use binding_terms::{Cat, CatId, Item, Sig, Text};
 use rule_schemes::{Fresh, Judgment, ReadScope, Want};
 use scheme_terms::{KnownDecl, MetaDecl};
@@ -134,32 +135,12 @@ fn is_once(cat: CatId, items: &[Item]) -> bool
     count == 1
 }
 
-fn begins_with(cat: CatId, items: &[Item]) -> bool
-    ensures { IsTrue result ↔ BeginsWith cat.0 (slots items.now) }
-{
-    for item in items {
-        if let Item::Slot { cat: own, binds: _ } = item {
-            return own.0 == cat.0;
-        }
-    }
-    false
-}
-
 fn has_one_context(judgment: &Judgment) -> bool
     ensures { IsTrue result ↔ HasOneContext judgment.now }
 {
     match judgment.ctx {
         None => true,
         Some(cat) => is_once(cat, judgment.items.as_slice()),
-    }
-}
-
-fn is_context_first(judgment: &Judgment) -> bool
-    ensures { IsTrue result ↔ IsContextFirst judgment.now }
-{
-    match judgment.ctx {
-        None => true,
-        Some(cat) => begins_with(cat, judgment.items.as_slice()),
     }
 }
 
@@ -174,27 +155,16 @@ fn have_one_context(judgments: &[Judgment]) -> bool
     true
 }
 
-fn are_contexts_first(judgments: &[Judgment]) -> bool
-    ensures { IsTrue result ↔ HasContextFirst judgments.now }
-{
-    for judgment in judgments {
-        if !is_context_first(judgment) {
-            return false;
-        }
-    }
-    true
-}
-
-/// Whether forms are read here, over a grammar in which no word is a spelling of two categories or variables: no known variable is in
-/// scope, and a judgment's context stands first.
+/// Whether forms are read here, over a grammar in which no word is a spelling of two categories or variables: the names of the scope
+/// are told apart, its known variables are written over its metavariables, and a judgment that assumes a context has one slot of it.
 pub fn is_readable(judgments: &Vec<Judgment>, scope: &ReadScope) -> bool
     ensures { (sig : Signature) → ((reading_scope scope.now).fresh ≢ not_fresh → IsSpelledOnce sig)
         → IsTrue result ↔ IsReadable sig judgments.now.items (reading_scope scope.now) }
 {
     names_apart(scope.scope.metas.as_slice())
         && have_one_context(judgments.as_slice())
-        && are_contexts_first(judgments.as_slice())
-        && no_knowns(scope.scope.knowns.as_slice())
+        && knowns_apart(scope.scope.knowns.as_slice())
+        && knowns_stand(scope)
 }
 
 /// Whether nothing binds in forms, and neither contexts, variables nor new names stand in them.

@@ -4,11 +4,11 @@ ghost use Rattle.std.specs.List.{AllByRecursion, list_all};
 ghost use Rattle.binding_terms.specs.Signature.{binders, is_word};
 ghost use Rattle.term_reader.specs.Splitting.{IsSheet, tokens_of, slot_range, split};
 ghost use Rattle.term_reader.specs.View.{variable};
-ghost use Rattle.notation_parser.specs.Shapes.{entered, AreShapes, IsUsable, IsScopeKnown, WritesNoKnown, begun, entry_shape, context_shape};
+ghost use Rattle.notation_parser.specs.Shapes.{entered, AreShapes, IsUsable, IsScopeKnown, KnownsApart, begun, entry_shape, scope_entry_shape, context_shape};
 ghost use Rattle.notation_parser.specs.ContextCases.{BeginsWith, IsEntryOver, IsCategoryName, IsNamed, IsEmptyOf, IsEnteredAt, IsEnteredBelow, IsContextBy, AreListed, first_variable, entry_of_split, with_entries, crossed};
 ghost use Rattle.notation_parser.specs.View.{reading_scope};
 
-use crate::heads::new_shapes;
+use crate::known_entries::known_shapes;
 use binding_terms::{CatId, Item, NoMemory, ProdId};
 use rule_schemes::ReadScope;
 use sqlite_items::{Items, at};
@@ -24,6 +24,14 @@ pub struct Entered<'a> {
     pub slots: Items<Piece<'a>>,
 }
 
+/// A known variable of the scope, by its number, with its entry as it is split over the tokens.
+#[derive(Drop)]
+pub struct KnownEntry<'a> {
+    pub prod: ProdId,
+    pub number: usize,
+    pub slots: Items<Piece<'a>>,
+}
+
 /// How a context begins.
 #[derive(Drop)]
 pub enum Start<'a> {
@@ -31,8 +39,10 @@ pub enum Start<'a> {
     Name,
     /// With an empty form.
     Empty(ProdId),
-    /// With a known variable that it writes, and its entry.
+    /// With a new known variable and its entry.
     New(Entered<'a>),
+    /// With a known variable of the scope.
+    Known(KnownEntry<'a>),
 }
 
 /// How a context begins, and its entries from the first on.
@@ -53,6 +63,16 @@ fn copy_entered<'a>(alloc: Global, entry: &Entered<'a>) -> Result<Entered<'a>, N
     })
 }
 
+fn copy_known<'a>(alloc: Global, known: &KnownEntry<'a>) -> Result<KnownEntry<'a>, NoMemory>
+    ensures { IfOk result (λ new. scope_entry_shape new ≡ scope_entry_shape known.now) }
+{
+    Ok(KnownEntry {
+        prod: known.prod,
+        number: known.number,
+        slots: Items::from_slice(alloc, known.slots.as_slice())?,
+    })
+}
+
 fn copy_start<'a>(alloc: Global, start: &Start<'a>) -> Result<Start<'a>, NoMemory>
     ensures { IfOk result (λ new. begun new ≡ begun start.now) }
 {
@@ -60,6 +80,7 @@ fn copy_start<'a>(alloc: Global, start: &Start<'a>) -> Result<Start<'a>, NoMemor
         Start::Name => Ok(Start::Name),
         Start::Empty(prod) => Ok(Start::Empty(*prod)),
         Start::New(entry) => Ok(Start::New(copy_entered(alloc, entry)?)),
+        Start::Known(known) => Ok(Start::Known(copy_known(alloc, known)?)),
     }
 }
 
@@ -278,7 +299,7 @@ fn entered_at<'a>(
 ) -> Result<Items<Shape<'a>>, NoMemory>
     requires sheet { IsSheet sheet.now }
     requires scope { IsScopeKnown sheet.now (reading_scope scope.now) }
-    requires writes { WritesNoKnown (reading_scope scope.now) }
+    requires apart { KnownsApart (reading_scope scope.now).names.knowns }
     requires entry { IsEntryOver cat.0 items.now }
     requires range { (from ≤ place) × (place < to) × (to ≤ length sheet.now.tokens.now) }
     ensures { IfOk result
@@ -314,7 +335,7 @@ fn entered_by<'a>(
 ) -> Result<Items<Shape<'a>>, NoMemory>
     requires sheet { IsSheet sheet.now }
     requires scope { IsScopeKnown sheet.now (reading_scope scope.now) }
-    requires writes { WritesNoKnown (reading_scope scope.now) }
+    requires apart { KnownsApart (reading_scope scope.now).names.knowns }
     requires entry { IsEntryOver cat.0 items.now }
     requires range { (from ≤ to) × (to ≤ length sheet.now.tokens.now) }
     ensures { IfOk result
@@ -342,7 +363,7 @@ fn shapes_by<'a>(
 ) -> Result<Items<Shape<'a>>, NoMemory>
     requires sheet { IsSheet sheet.now }
     requires scope { IsScopeKnown sheet.now (reading_scope scope.now) }
-    requires writes { WritesNoKnown (reading_scope scope.now) }
+    requires apart { KnownsApart (reading_scope scope.now).names.knowns }
     requires prod { p < length sheet.now.sig.now.prods }
     requires range { (from ≤ to) × (to ≤ length sheet.now.tokens.now) }
     ensures { IfOk result
@@ -377,7 +398,7 @@ pub fn shapes<'a>(
 ) -> Result<Items<Shape<'a>>, NoMemory>
     requires sheet { IsSheet sheet.now }
     requires scope { IsScopeKnown sheet.now (reading_scope scope.now) }
-    requires writes { WritesNoKnown (reading_scope scope.now) }
+    requires apart { KnownsApart (reading_scope scope.now).names.knowns }
     requires range { (from ≤ to) × (to ≤ length sheet.now.tokens.now) }
     ensures shapes { IfOk result
         (λ all. AreShapes sheet.now.sig.now (reading_scope scope.now) sheet.now.metas.now (tokens_of sheet.now) cat from to (map context_shape all)) }
@@ -387,6 +408,6 @@ pub fn shapes<'a>(
     for p in 0..sheet.sig.prods().len() {
         all.append(shapes_by(alloc, sheet, scope, cat, p, from, to)?)?;
     }
-    all.append(new_shapes(alloc, sheet, scope, cat, from, to)?)?;
+    all.append(known_shapes(alloc, sheet, scope, cat, from, to)?)?;
     Ok(all)
 }

@@ -2,14 +2,14 @@
 ghost use Rattle.std.specs.Prelude.{◌≡◌, ◌≤◌, ◌++◌, List, IfOk, length, map};
 ghost use Rattle.binding_terms.specs.Signature.{Signature};
 ghost use Rattle.scheme_terms.specs.View.{known_variable};
-ghost use Rattle.rule_schemes.specs.Reading.{Token, ReadingScope};
+ghost use Rattle.rule_schemes.specs.Reading.{Token, ReadingScope, fresh_names};
 ghost use Rattle.rule_schemes.specs.Said.{Want, IsBefore};
 ghost use Rattle.rule_schemes.specs.declared.rule.Judgment.{Judgment};
 ghost use Rattle.term_reader.specs.Firsts.{listed, AreFirst};
 ghost use Rattle.notation_parser.specs.Answer.{IsAnswer};
 ghost use Rattle.notation_parser.specs.Ordered.{ReadsWantedAt};
 ghost use Rattle.notation_parser.specs.Used as used_spec;
-ghost use Rattle.notation_parser.specs.Used.{Says, TellsUsed, MayBeNew, KnownsInScope};
+ghost use Rattle.notation_parser.specs.Used.{Says, TellsUsed, MayBeNew, KnownsStand};
 ghost use Rattle.notation_parser.specs.View.{written, what_is_said, outcome};
 
 use crate::occurring::marks_of;
@@ -123,7 +123,8 @@ pub fn tell(
     found: Firsts<Outcome>,
 ) -> Result<Reading, NoMemory>
     ensures { (sig : Signature) (js : List Judgment) (scope : ReadingScope) (want : Want) (ts : List Token)
-        → first_new ≡ length scope.names.metas → MayBeNew sig scope ts candidates.now → KnownsInScope scope → length ts ≤ 256
+        → first_new ≡ length scope.names.metas → MayBeNew sig scope ts candidates.now
+        → (scope.fresh ≡ fresh_names → KnownsStand scope) → length ts ≤ 256
         → AreFirst IsBefore (ReadsWantedAt sig js scope (scope.names.metas ++ candidates.now) want ts) (listed outcome found)
         → IfOk result (λ r. IsAnswer sig js scope want ts r) }
 {

@@ -27,3 +27,6 @@ returns-in-Empty c =
 
 pub returns-in-New : goal.returns-in-New
 returns-in-New c = rw c.in-New.is c.new_contexts.ensures
+
+pub returns-in-Known : goal.returns-in-Known
+returns-in-Known c = rw c.in-Known.is c.scope_contexts.ensures

@@ -8,7 +8,7 @@ use Rattle.term_reader.proofs.Finding.{AreFirst-same}
 use Rattle.term_reader.proofs.SplitLemmas.{if_ok}
 use Rattle.notation_parser.specs.Forms.{IsReadAs}
 use Rattle.notation_parser.specs.View.{reading_scope}
-use Rattle.notation_parser.proofs.Judging.{form_at_front, closed_read, open_read}
+use Rattle.notation_parser.proofs.Judging.{form_with_one, closed_read, open_read}
 use Rattle.notation_parser.proofs.judgments.form.Goals as goal
 
 pub closed-requires-clause-vars : goal.closed-requires-clause-vars
@@ -19,7 +19,7 @@ open-requires-clause-one c =
     let js = c.args.judgments.now in
     let j = c.index-judgments-k.result in
     let here : slice_get js c.args.k ≡ Some j = slice_get_read js _ c.args.k j refl c.requires.number c.index-judgments-k.is in
-    rw c.as_slice-items.ensures (form_at_front js c.args.k j c.in-Some.cat here c.in-Some.is c.requires.one c.requires.first)
+    rw c.as_slice-items.ensures (form_with_one js c.args.k j c.in-Some.cat here c.in-Some.is c.requires.one)
 
 pub returns-in_ok-found-in-None : goal.returns-in_ok-found-in-None
 returns-in_ok-found-in-None c =

@@ -11,7 +11,7 @@ use Rattle.term_reader.proofs.Usable.{all_at_place}
 use Rattle.notation_parser.specs.Forms.{IsContextRead}
 use Rattle.notation_parser.specs.Shapes.{AreShapes, IsUsable, context_shape}
 use Rattle.notation_parser.specs.View.{outcome, reading_scope}
-use Rattle.notation_parser.proofs.OpenForms.{AsContext, contexts_apart, context_as, contexts_read}
+use Rattle.notation_parser.proofs.ContextForms.{AsContext, contexts_apart, context_as, contexts_read}
 use Rattle.notation_parser.proofs.Several.{InOneOf, several_none, several_more, several_enough}
 use Rattle.notation_parser.proofs.over.contexts.Goals as goal
 

@@ -4,7 +4,7 @@ use Rattle.term_reader.specs.Firsts.{listed, AreFirst}
 use Rattle.term_reader.specs.Splitting.{tokens_of}
 use Rattle.notation_parser.specs.Shapes.{context_shape}
 use Rattle.notation_parser.specs.View.{outcome, reading_scope}
-use Rattle.notation_parser.proofs.OpenForms.{AsContext}
+use Rattle.notation_parser.proofs.ContextForms.{AsContext}
 use Rattle.notation_parser.proofs.Several.{InOneOf}
 use Rattle.notation_parser.proofs.over.contexts.Given as goal
 

@@ -4,8 +4,7 @@ use Rattle.rule_schemes.specs.Said.{IsBefore}
 use Rattle.term_reader.specs.Firsts.{listed, AreFirst}
 use Rattle.term_reader.specs.View.{token}
 use Rattle.notation_parser.specs.Ordered.{ReadsWantedAt}
-use Rattle.notation_parser.specs.Used.{MayBeNew, KnownsInScope}
-use Rattle.notation_parser.specs.Renaming.{OccursInKnowns}
+use Rattle.notation_parser.specs.Used.{MayBeNew}
 use Rattle.notation_parser.specs.View.{outcome, reading_scope, wanted}
 use Rattle.notation_parser.proofs.UsedAnswer.{names_apart_all, readable_over}
 use Rattle.notation_parser.proofs.reader.read.Goals as goal
@@ -31,8 +30,7 @@ returns c =
     c.as_slice-2.ensures ∙ c.in_ok-metas.ensures ∙ ap (λ xs. xs ++ c.as_slice.result.now) c.as_slice-own.ensures
     ∙ ap (λ ys. scope.names.metas ++ ys) (c.as_slice.ensures ∙ sym c.as_slice-3.ensures) in
     let may : MayBeNew sig scope ts new = subst (MayBeNew sig scope ts) (sym c.as_slice-3.ensures) c.in_ok-new.ensures in
-    let none : KnownsInScope scope = λ m h. absurd (subst (λ ks. OccursInKnowns m ks) c.requires.knowns h) in
     let short : length ts ≤ 256 = omega (arith, length-map c.args.tokens.now token, c.if-tokens-gt-LONGEST.false) in
     let found : AreFirst IsBefore (ReadsWantedAt sig js scope (scope.names.metas ++ new) want ts) (listed outcome c.in_ok-found.found) =
     subst (λ metas. AreFirst IsBefore (ReadsWantedAt sig js scope metas want ts) (listed outcome c.in_ok-found.found)) all c.in_ok-found.ensures in
-    c.tell.ensures sig js scope want ts (ap length c.as_slice-own.ensures) may none short found
+    c.tell.ensures sig js scope want ts (ap length c.as_slice-own.ensures) may c.requires.stand short found

@@ -69,8 +69,8 @@ shapes-returns-clause-shapes t c =
     let within : c.args.to ≤ length (tokens_of sheet) = omega (arith, c.requires.range.1, length-map sheet.tokens.now token) in
     let past : length sheet.sig.now.prods ≤ c.loop-p.p = omega (arith, ap length c.prods.ensures.value) in
     rw c.in_ok-append-2.ensures
-    (all_shapes sheet (reading_scope c.args.scope.now) c.args.cat c.args.from c.args.to c.requires.range.0 within c.loop-p.p c.loop-p.all c.in_ok-new_shapes.field-0 past c.requires.writes
-    c.loop-p.invariant c.in_ok-new_shapes.ensures).0
+    (all_shapes sheet (reading_scope c.args.scope.now) c.args.cat c.args.from c.args.to c.requires.range.0 within c.loop-p.p c.loop-p.all c.in_ok-known_shapes.field-0 past
+    c.loop-p.invariant c.in_ok-known_shapes.ensures).0
 
 pub shapes-returns-clause-usable : goal.shapes-returns-clause-usable
 shapes-returns-clause-usable t c =
@@ -78,8 +78,8 @@ shapes-returns-clause-usable t c =
     let within : c.args.to ≤ length (tokens_of sheet) = omega (arith, c.requires.range.1, length-map sheet.tokens.now token) in
     let past : length sheet.sig.now.prods ≤ c.loop-p.p = omega (arith, ap length c.prods.ensures.value) in
     rw c.in_ok-append-2.ensures
-    (all_shapes sheet (reading_scope c.args.scope.now) c.args.cat c.args.from c.args.to c.requires.range.0 within c.loop-p.p c.loop-p.all c.in_ok-new_shapes.field-0 past c.requires.writes
-    c.loop-p.invariant c.in_ok-new_shapes.ensures).1
+    (all_shapes sheet (reading_scope c.args.scope.now) c.args.cat c.args.from c.args.to c.requires.range.0 within c.loop-p.p c.loop-p.all c.in_ok-known_shapes.field-0 past
+    c.loop-p.invariant c.in_ok-known_shapes.ensures).1
 
 pub shapes_by-returns : goal.shapes_by-returns
 shapes_by-returns t c =
