@@ -9,10 +9,11 @@ use Rattle.proof_lexer.specs.View.{token_view}
 use Rattle.proof_lexer.specs.declared.token.Token.{Token}
 use Rattle.outline_reader.specs.Plain.{PlainPortion, plain_form}
 use Rattle.user_grammar.specs.File.{listed}
+use Rattle.user_grammar.specs.Names.{IsAmong}
 use Rattle.user_grammar.specs.Production.{IsTerminal}
 use Rattle.user_grammar.specs.Fault.{Place, outside, behind_slot, before_word, behind_word, IsOutside, IsSlotWord, IsBinderWord, IsBinderOf, Follows, IsPlaceBehind, behind_one_more, IsToldFirst, rank}
 use Rattle.user_grammar.specs.Finding.{IsLeast, IsFoundAt, IsEarlierOf, Either}
-use Rattle.user_grammar.specs.FindingPlaces.{AreBinders, no_binders, a_binder, another, IsWrongAt, HasCode, unknown, wrong, twice, AtPlace, AmongFirst, TokensOf}
+use Rattle.user_grammar.specs.FindingPlaces.{AreBinders, IsWrongAt, HasCode, unknown, wrong, twice, AtPlace, AmongFirst, TokensOf}
 use Rattle.user_grammar.specs.declared.fault_found.Found.{Found}
 use Rattle.user_grammar.proofs.FaultLeast.{least_same, least_none, least_of_two, any_left, any_right, any_cases}
 use Rattle.user_grammar.proofs.FaultDeclared.{split_last}
@@ -24,20 +25,8 @@ nothing_before : {A : Type 0} (before : List A) (y : A) (after : List A) → [] 
 nothing_before [] y after e = cc
 nothing_before (b ∷ before) y after e = cc
 
-stands_among : {portions : List PlainPortion} {all bs : List PlainToken} → AreBinders portions all bs → (front : List PlainToken) (t : PlainToken) (rest : List PlainToken) (place : Place)
-    → all ≡ front ++ t ∷ rest → IsPlaceBehind portions front place → IsOutside place t → IsBinderWord portions t → AnyByRecursion (λ (b : PlainToken). b.text ≡ t.text) bs
-stands_among no_binders front t rest place e is out word = absurd (nothing_before front t rest e)
-stands_among (a_binder {front = own} {binders = bs} u at clear spells more) front t rest place e is out word = elim (split_last own u front t rest e) [
-  | inl l ↦ any_right (λ (b : PlainToken). b.text ≡ t.text) bs (u ∷ []) (inl (ap (λ (x : PlainToken). x.text) l.1))
-  | inr r ↦ any_left (λ (b : PlainToken). b.text ≡ t.text) bs (u ∷ []) (stands_among more front t r.0 place r.1 is out word)
-]
-stands_among {portions = portions} (another {front = own} {place = p} u at none more) front t rest place e is out word = elim (split_last own u front t rest e) [
-  | inl l ↦ (
-      let same : p ≡ place = place_once portions (subst (λ ts. IsPlaceBehind portions ts p) l.0 at) is in
-      absurd (none (subst (λ q. IsOutside q u) (sym same) (subst (IsOutside place) (sym l.1) out)) (subst (IsBinderWord portions) (sym l.1) word))
-      )
-  | inr r ↦ stands_among more front t r.0 place r.1 is out word
-]
+pub none_at_start : (portions : List PlainPortion) (w : List ℕ) → IsBinderOf portions [] w → ⊥
+none_at_start portions w is = nothing_before is.stands.stands.front is.token is.stands.stands.rest is.stands.stands.split
 
 binder_longer : (portions : List PlainPortion) (own : List PlainToken) (u : PlainToken) (w : List ℕ) → IsBinderOf portions own w → IsBinderOf portions (own ++ u ∷ []) w
 binder_longer portions own u w is = record {
@@ -56,29 +45,65 @@ binder_longer portions own u w is = record {
   same = is.same;
 }
 
-among_stands : {portions : List PlainPortion} {all bs : List PlainToken} → AreBinders portions all bs → (w : List ℕ) → AnyByRecursion (λ (b : PlainToken). b.text ≡ w) bs → IsBinderOf portions all w
-among_stands no_binders w any = absurd any
-among_stands {portions = portions} (a_binder {front = own} {binders = bs} {place = p} u at clear spells more) w any = elim (any_cases (λ (b : PlainToken). b.text ≡ w) bs (u ∷ []) any) [
-  | inl l ↦ binder_longer portions own u w (among_stands more w l)
-  | inr r ↦ elim r [
-    | inl same ↦ record {
-      token = u;
-      stands = record { place = p; stands = record { front = own; rest = []; split = refl; is_place = at }; is_outside = clear };
-      is_binder = spells;
-      same = same;
-    }
-    | inr never ↦ absurd never
-  ]
-]
-among_stands {portions = portions} (another {front = own} u at none more) w any = binder_longer portions own u w (among_stands more w any)
+-- the binders of one token more: those before it, and the token itself
+last_binder : (portions : List PlainPortion) (front : List PlainToken) (place : Place) (t : PlainToken) (w : List ℕ) → IsPlaceBehind portions front place
+    → (own : List PlainToken) (p : Place) (s : PlainToken) → front ≡ own → t ≡ s → IsPlaceBehind portions own p → IsOutside p s → IsBinderWord portions s → s.text ≡ w
+    → IsOutside place t × IsBinderWord portions t × (t.text ≡ w)
+last_binder portions front place t w at own p s same_front same_token is out word same =
+    let same_place : p ≡ place = place_once portions (subst (λ ts. IsPlaceBehind portions ts p) (sym same_front) is) at in (
+      subst (λ q. IsOutside q t) same_place (subst (IsOutside p) (sym same_token) out),
+      subst (IsBinderWord portions) (sym same_token) word,
+      ap (λ (x : PlainToken). x.text) same_token ∙ same,
+    )
 
--- the words of the binders of a form
-pub binder_words : {portions : List PlainPortion} {all bs : List PlainToken} → AreBinders portions all bs → (w : List ℕ) → AnyByRecursion (λ (b : PlainToken). b.text ≡ w) bs ↔ IsBinderOf portions all w
-binder_words {bs = bs} are w = (
-  (λ any. among_stands are w any),
-  (λ is. subst (λ v. AnyByRecursion (λ (b : PlainToken). b.text ≡ v) bs) is.same
-      (stands_among are is.stands.stands.front is.token is.stands.stands.rest is.stands.place is.stands.stands.split is.stands.stands.is_place is.stands.is_outside is.is_binder)),
-)
+binder_cases : (portions : List PlainPortion) (front : List PlainToken) (place : Place) (t : PlainToken) (w : List ℕ) → IsPlaceBehind portions front place
+    → IsBinderOf portions (front ++ t ∷ []) w → IsBinderOf portions front w ⊎ (IsOutside place t × IsBinderWord portions t × (t.text ≡ w))
+binder_cases portions front place t w at is = elim (split_last front t is.stands.stands.front is.token is.stands.stands.rest is.stands.stands.split) [
+  | inl l ↦ inr (last_binder portions front place t w at is.stands.stands.front is.stands.place is.token l.0 l.1 is.stands.stands.is_place is.stands.is_outside is.is_binder is.same)
+  | inr r ↦ inl (record {
+    token = is.token;
+    stands = record {
+      place = is.stands.place;
+      stands = record { front = is.stands.stands.front; rest = r.0; split = r.1; is_place = is.stands.stands.is_place };
+      is_outside = is.stands.is_outside;
+    };
+    is_binder = is.is_binder;
+    same = is.same;
+  })
+]
+
+binder_here : (portions : List PlainPortion) (front : List PlainToken) (place : Place) (t : PlainToken) (w : List ℕ) → IsPlaceBehind portions front place → IsOutside place t
+    → IsBinderWord portions t → t.text ≡ w → IsBinderOf portions (front ++ t ∷ []) w
+binder_here portions front place t w at out word same = record {
+  token = t;
+  stands = record { place = place; stands = record { front = front; rest = []; split = refl; is_place = at }; is_outside = out };
+  is_binder = word;
+  same = same;
+}
+
+pub no_words_yet : (portions : List PlainPortion) (words : List (List ℕ)) → words ≡ [] → AreBinders portions [] words
+no_words_yet portions words none = record { are = λ w. ((λ any. absurd (subst (λ ws. IsAmong ws w) none any)), (λ is. absurd (none_at_start portions w is))) }
+
+-- a token that is no binder adds no word
+pub no_binder_more : (portions : List PlainPortion) (front : List PlainToken) (place : Place) (t : PlainToken) (words : List (List ℕ)) → IsPlaceBehind portions front place
+    → (IsOutside place t → IsBinderWord portions t → ⊥) → AreBinders portions front words → AreBinders portions (front ++ t ∷ []) words
+no_binder_more portions front place t words at none all = record {
+  are = λ w. (
+    (λ any. binder_longer portions front t w ((all.are w).0 any)),
+    (λ is. elim (binder_cases portions front place t w at is) [ inl l ↦ (all.are w).1 l | inr r ↦ absurd (none r.0 r.1) ]),
+  );
+}
+
+-- a binder adds its word
+pub one_binder_more : (portions : List PlainPortion) (front : List PlainToken) (place : Place) (t : PlainToken) (words more : List (List ℕ)) → IsPlaceBehind portions front place
+    → IsOutside place t → IsBinderWord portions t → ((w : List ℕ) → IsAmong more w ↔ (IsAmong words w ⊎ (t.text ≡ w))) → AreBinders portions front words
+    → AreBinders portions (front ++ t ∷ []) more
+one_binder_more portions front place t words more at out word added all = record {
+  are = λ w. (
+    (λ any. elim ((added w).0 any) [ inl l ↦ binder_longer portions front t w ((all.are w).0 l) | inr same ↦ binder_here portions front place t w at out word same ]),
+    (λ is. (added w).1 (elim (binder_cases portions front place t w at is) [ inl l ↦ inl ((all.are w).1 l) | inr r ↦ inr r.2 ])),
+  );
+}
 
 -- ---- one token
 
@@ -243,7 +268,7 @@ pub place_more : (portions : List PlainPortion) (xs : List Token) (i : ℕ) (d :
     → Follows portions place (token_view (get_or xs i d)) next → IsPlaceBehind portions (plain_form (take (i + 1) xs)) next
 place_more portions xs i d place next lt at follows = subst (λ ts. IsPlaceBehind portions ts next) (form_push xs i d lt) (behind_one_more at follows)
 
-pub binders_more : (portions : List PlainPortion) (xs : List Token) (i : ℕ) (d : Token) (bs : List PlainToken) → i < length xs
+pub binders_more : (portions : List PlainPortion) (xs : List Token) (i : ℕ) (d : Token) (bs : List (List ℕ)) → i < length xs
     → AreBinders portions (plain_form (take i xs) ++ token_view (get_or xs i d) ∷ []) bs → AreBinders portions (plain_form (take (i + 1) xs)) bs
 binders_more portions xs i d bs lt are = subst (λ ts. AreBinders portions ts bs) (form_push xs i d lt) are
 

@@ -1,5 +1,5 @@
 -- Where the tokens of a production stand, as functions inside the crate follow them.
-use Rattle.std.specs.Prelude.{Option, None, Some, MatchOption, ◌≡◌, ◌≢◌, ◌⊎◌, ◌<◌, ◌++◌, ℕ, List, [], ◌∷◌, map, reverse, length}
+use Rattle.std.specs.Prelude.{Option, None, Some, MatchOption, ◌≡◌, ◌≢◌, ◌↔◌, ◌⊎◌, ◌<◌, ◌++◌, ℕ, List, [], ◌∷◌, map, reverse, length}
 use Rattle.std.specs.List.{AllByRecursion}
 use Rattle.sy_base.specs.Tokens.{PlainToken}
 use Rattle.outline_reader.specs.Plain.{PlainPortion}
@@ -26,13 +26,9 @@ step_view step.BehindWord named = behind_word named
 abbrev pub walk_view : Walk → Place
 walk_view walk = step_view walk.step (reverse (map (λ word. word.now) walk.named.items))
 
--- The binders of these first tokens, in text order: the words outside brackets that are spelled as a variable.
-pub data AreBinders (portions : List PlainPortion) : (front binders : List PlainToken) → Type 0 where
-  no_binders : AreBinders portions [] []
-  a_binder : {front binders : List PlainToken} {place : Place} (token : PlainToken) → IsPlaceBehind portions front place → IsOutside place token → IsBinderWord portions token →
-      AreBinders portions front binders → AreBinders portions (front ++ token ∷ []) (binders ++ token ∷ [])
-  another : {front binders : List PlainToken} {place : Place} (token : PlainToken) → IsPlaceBehind portions front place → (IsOutside place token → IsBinderWord portions token → ⊥) →
-      AreBinders portions front binders → AreBinders portions (front ++ token ∷ []) binders
+-- these are the words of the binders of a form, or of its first tokens
+pub record AreBinders (portions : List PlainPortion) (form : List PlainToken) (words : List (List ℕ)) : Type 0 where
+  pub are : (word : List ℕ) → IsAmong words word ↔ IsBinderOf portions form word
 
 -- what is wrong with a token in the brackets of a slot, by its place
 abbrev pub IsWrongAt : List PlainPortion → (form rest : List PlainToken) → Place → PlainToken → Type 0

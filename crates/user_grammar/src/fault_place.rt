@@ -1,18 +1,20 @@
 // Where the tokens of a production stand, and which of them are binders.
-ghost use Rattle.std.specs.Prelude.{◌≡◌, ◌↔◌, ◌++◌, ◌∷◌, [], List, IsTrue, IfOk, OnOk, map};
+ghost use Rattle.std.specs.Prelude.{◌≡◌, ◌↔◌, ◌++◌, ◌∷◌, [], List, IsTrue, IfOk, OnOk};
 ghost use Rattle.sy_base.specs.Tokens.{PlainToken};
 ghost use Rattle.proof_lexer.specs.View.{token_view};
 ghost use Rattle.outline_reader.specs.Plain.{plain_form};
 ghost use Rattle.user_grammar.specs.Fault.{Follows, IsBinderWord, IsOutside, IsPlaceBehind, outside};
 ghost use Rattle.user_grammar.specs.Finding.{AreLists, AreNames, portions_of};
+ghost use Rattle.user_grammar.specs.Indexed.{names_in};
 ghost use Rattle.user_grammar.specs.FindingPlaces.{AreBinders, walk_view};
 ghost use Rattle.user_grammar.specs.declared.fault_place.Step.TheVariants.{BeforeWord, BehindSlot, BehindWord};
 
 use crate::fault_form::{is_closing, is_opening};
 use crate::fault_lists::Lists;
 use crate::fault_names::{Names, is_binder_word, is_slot_word};
+use crate::name_index::{NameIndex, add_name, no_names};
 use binding_terms::NoMemory;
-use outline_reader::{Form, Name};
+use outline_reader::Form;
 use proof_lexer::Token;
 use std::alloc::Global;
 
@@ -133,17 +135,17 @@ pub fn pass<'a>(
     }
 }
 
-/// Puts a token at the end where it is a binder.
+/// Adds the word of a token where it is a binder.
 pub fn note_binder<'a>(
     names: &Names<'_>,
     walk: &Walk<'_>,
     token: &'a Token<'a>,
-    all: &mut Vec<Name<'a>>,
+    all: &mut NameIndex<'a>,
 ) -> Result<(), NoMemory>
     requires { AreNames names.now }
     ensures { OnOk result ((front : List PlainToken) → IsPlaceBehind (portions_of names.now.lists) front (walk_view walk.now)
-        → AreBinders (portions_of names.now.lists) front (map (λ name. token_view name.now) all.old.items)
-        → AreBinders (portions_of names.now.lists) (front ++ token_view token.now ∷ []) (map (λ name. token_view name.now) all.new.items)) }
+        → AreBinders (portions_of names.now.lists) front (names_in all.old)
+        → AreBinders (portions_of names.now.lists) (front ++ token_view token.now ∷ []) (names_in all.new)) }
 {
     if !is_outside(walk, token) {
         return Ok(());
@@ -151,20 +153,20 @@ pub fn note_binder<'a>(
     if !is_binder_word(names, token) {
         return Ok(());
     }
-    all.push(token)?;
+    add_name(all, token.text.as_bytes())?;
     Ok(())
 }
 
-/// The binders of a form, in text order.
+/// The words of the binders of a form.
 pub fn binders<'a>(
     alloc: Global,
     names: &Names<'_>,
     form: Form<'a>,
-) -> Result<Vec<Name<'a>>, NoMemory>
+) -> Result<NameIndex<'a>, NoMemory>
     requires { AreNames names.now }
-    ensures { IfOk result (λ all. AreBinders (portions_of names.now.lists) (plain_form form.now) (map (λ name. token_view name.now) all.items)) }
+    ensures { IfOk result (λ all. AreBinders (portions_of names.now.lists) (plain_form form.now) (names_in all)) }
 {
-    let mut all = Vec::new(alloc);
+    let mut all = no_names(alloc);
     let mut walk = start(alloc);
     for token in form {
         note_binder(names, &walk, token, &mut all)?;

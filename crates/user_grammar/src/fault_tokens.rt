@@ -1,7 +1,6 @@
 // Faults at the tokens of a production, by their places.
 ghost use Rattle.std.specs.Prelude.{◌≡◌, ◌≢◌, ◌↔◌, ◌⊎◌, ◌++◌, ◌∷◌, [], List, IsTrue, IfOk, length, map, reverse};
 ghost use Rattle.std.specs.List.{AllByRecursion};
-ghost use Rattle.binding_terms.specs.Numbered.{AnyByRecursion};
 ghost use Rattle.sy_base.specs.Tokens.{PlainToken};
 ghost use Rattle.proof_lexer.specs.View.{token_view};
 ghost use Rattle.outline_reader.specs.Plain.{plain_form};
@@ -10,6 +9,7 @@ ghost use Rattle.user_grammar.specs.Names.{IsAmong};
 ghost use Rattle.user_grammar.specs.Production.{IsMark};
 ghost use Rattle.user_grammar.specs.Fault.{IsBinderWord, IsOutside, Place};
 ghost use Rattle.user_grammar.specs.Finding.{AreNames, IsLeast, OfSome, portions_of, written_view};
+ghost use Rattle.user_grammar.specs.Indexed.{names_in};
 ghost use Rattle.user_grammar.specs.FindingPlaces.{AmongFirst, AreBinders, AtPlace, IsWrongAt, TokensOf, walk_view};
 
 use crate::fault_form::{is_closing, is_comma, is_opening};
@@ -17,24 +17,13 @@ use crate::fault_found::{Found, at_token, earlier};
 use crate::fault_lists::Written;
 use crate::fault_names::{Names, is_binder_word, is_slot_word, may_stand};
 use crate::fault_place::{Step, Walk, binders, is_outside, note_binder, pass, start};
-use crate::names::is_same;
+use crate::name_index::{NameIndex, has_name, no_names};
 use crate::tokens::{is_listed, is_word};
 use binding_terms::NoMemory;
-use outline_reader::{Form, Name};
+use outline_reader::Form;
 use proof_lexer::Token;
 use std::alloc::Global;
 use sy_base::Code;
-
-fn is_among(names: &[Name<'_>], word: &[u8]) -> bool
-    ensures { IsTrue result ↔ AnyByRecursion (λ token. token.text ≡ word.now) (map (λ name. token_view name.now) names.now) }
-{
-    for name in names {
-        if is_same(name.text.as_bytes(), word) {
-            return true;
-        }
-    }
-    false
-}
 
 fn is_named(named: &[&[u8]], word: &[u8]) -> bool
     ensures { IsTrue result ↔ IsAmong (reverse (map (λ text. text.now) named.now)) word.now }
@@ -56,15 +45,15 @@ fn none_closes(rest: &[Token<'_>]) -> bool
 /// The fault of a binder, with the binders before it.
 fn second_binder<'a>(
     names: &Names<'_>,
-    seen: &[Name<'_>],
+    seen: &NameIndex<'_>,
     token: &'a Token<'a>,
 ) -> Option<Found<'a>>
     requires { IsBinderWord (portions_of names.now.lists) (token_view token.now) }
     ensures { (form front rest : List PlainToken) (place : Place) → IsOutside place (token_view token.now)
-        → AreBinders (portions_of names.now.lists) front (map (λ name. token_view name.now) seen.now)
+        → AreBinders (portions_of names.now.lists) front (names_in seen.now)
         → IsLeast (AtPlace (portions_of names.now.lists) form front rest place (token_view token.now)) result }
 {
-    if is_among(seen, token.text.as_bytes()) {
+    if has_name(seen, token.text.as_bytes()) {
         return Some(at_token(Code::BinderTwice, token));
     }
     None
@@ -73,12 +62,12 @@ fn second_binder<'a>(
 /// The fault of a token outside brackets, with the binders before it.
 fn outside_fault<'a>(
     names: &Names<'_>,
-    seen: &[Name<'_>],
+    seen: &NameIndex<'_>,
     token: &'a Token<'a>,
 ) -> Option<Found<'a>>
     requires { AreNames names.now }
     ensures { (form front rest : List PlainToken) (place : Place) → IsOutside place (token_view token.now)
-        → AreBinders (portions_of names.now.lists) front (map (λ name. token_view name.now) seen.now)
+        → AreBinders (portions_of names.now.lists) front (names_in seen.now)
         → IsLeast (AtPlace (portions_of names.now.lists) form front rest place (token_view token.now)) result }
 {
     if is_binder_word(names, token) {
@@ -94,15 +83,15 @@ fn outside_fault<'a>(
 }
 
 /// Whether a token is wrong where a word is expected.
-fn is_wrong_name(binders: &[Name<'_>], named: &[&[u8]], token: &Token<'_>) -> bool
+fn is_wrong_name(binders: &NameIndex<'_>, named: &[&[u8]], token: &Token<'_>) -> bool
     ensures { IsTrue result ↔ ((token_view token.now).kind ≢ 0)
-        ⊎ (AnyByRecursion (λ one. one.text ≡ (token_view token.now).text) (map (λ name. token_view name.now) binders.now) → ⊥)
+        ⊎ (IsAmong (names_in binders.now) (token_view token.now).text → ⊥)
         ⊎ (((token_view token.now).kind ≡ 0) × IsAmong (reverse (map (λ text. text.now) named.now)) (token_view token.now).text) }
 {
     if !is_word(token) {
         return true;
     }
-    if !is_among(binders, token.text.as_bytes()) {
+    if !has_name(binders, token.text.as_bytes()) {
         return true;
     }
     is_named(named, token.text.as_bytes())
@@ -123,12 +112,12 @@ fn is_wrong_comma(token: &Token<'_>) -> bool
 /// Whether a token in the brackets of a slot is wrong there.
 fn is_wrong(
     names: &Names<'_>,
-    binders: &[Name<'_>],
+    binders: &NameIndex<'_>,
     walk: &Walk<'_>,
     token: &Token<'_>,
     rest: &[Token<'_>],
 ) -> bool
-    ensures { (form : List PlainToken) → AreBinders (portions_of names.now.lists) form (map (λ name. token_view name.now) binders.now)
+    ensures { (form : List PlainToken) → AreBinders (portions_of names.now.lists) form (names_in binders.now)
         → IsTrue result ↔ IsWrongAt (portions_of names.now.lists) form (plain_form rest.now) (walk_view walk.now) (token_view token.now) }
 {
     match walk.step {
@@ -142,15 +131,15 @@ fn is_wrong(
 /// The fault at a token, with the binders of its form and those before it.
 fn point_fault<'a>(
     names: &Names<'_>,
-    binders: &[Name<'_>],
-    seen: &[Name<'_>],
+    binders: &NameIndex<'_>,
+    seen: &NameIndex<'_>,
     walk: &Walk<'_>,
     token: &'a Token<'a>,
     rest: &[Token<'_>],
 ) -> Option<Found<'a>>
     requires { AreNames names.now }
-    ensures { (form front : List PlainToken) → AreBinders (portions_of names.now.lists) form (map (λ name. token_view name.now) binders.now)
-        → AreBinders (portions_of names.now.lists) front (map (λ name. token_view name.now) seen.now)
+    ensures { (form front : List PlainToken) → AreBinders (portions_of names.now.lists) form (names_in binders.now)
+        → AreBinders (portions_of names.now.lists) front (names_in seen.now)
         → IsLeast (AtPlace (portions_of names.now.lists) form front (plain_form rest.now) (walk_view walk.now) (token_view token.now)) result }
 {
     if is_outside(walk, token) {
@@ -171,15 +160,13 @@ fn form_fault<'a>(
     requires { AreNames names.now }
     ensures { IfOk result (IsLeast (TokensOf (portions_of names.now.lists) (plain_form form.now))) }
 {
-    let all = binders(alloc, names, form)?;
-    let own = all.as_slice();
-    let mut seen = Vec::new(alloc);
+    let own = binders(alloc, names, form)?;
+    let mut seen = no_names(alloc);
     let mut walk = start(alloc);
     let mut found = None;
     for (number, token) in form.iter().enumerate() {
         let rest = &form[number + 1..];
-        let before = seen.as_slice();
-        let one = point_fault(names, own, before, &walk, token, rest);
+        let one = point_fault(names, &own, &seen, &walk, token, rest);
         found = earlier(found, one);
         note_binder(names, &walk, token, &mut seen)?;
         pass(&names.lists, &mut walk, token)?;

@@ -5,9 +5,11 @@ ghost use Rattle.outline_reader.specs.Plain.{outlined};
 ghost use Rattle.user_grammar.specs.Fault.{HasNoFault};
 ghost use Rattle.user_grammar.specs.File.{categories, listed};
 ghost use Rattle.user_grammar.specs.Grammar.{IsSignatureOf, IsWritten};
+ghost use Rattle.user_grammar.specs.Indexed.{names_in};
 ghost use Rattle.user_grammar.specs.Made.{plains};
 
 use crate::made_productions::{assumed_texts, category_texts, made_categories, made_productions};
+use crate::name_index::{NameIndex, indexed};
 use crate::portions::listed;
 use binding_terms::{Cat, NoMemory, Prod, Sig};
 use outline_reader::{Outline, Portion};
@@ -24,12 +26,12 @@ pub struct Written {
 fn written_categories(
     alloc: Global,
     names: &[&[u8]],
-    texts: &[&[u8]],
+    texts: &NameIndex<'_>,
     portions: &[Portion<'_>],
 ) -> Result<Vec<Cat>, NoMemory>
     requires named { map (λ name. name.now) names.now
         ≡ map (λ written. written.name.text) (categories (plains portions.now)) }
-    requires are_listed { map (λ text. text.now) texts.now ≡ listed (plains portions.now) }
+    requires are_listed { names_in texts.now ≡ listed (plains portions.now) }
     ensures few { IfOk result (λ cats. length cats.items < 2 ^ 32) }
     ensures are { IfOk result (λ cats. (sig : Signature) → IsWritten (plains portions.now) sig → cats.items ≡ sig.cats) }
 {
@@ -48,15 +50,10 @@ fn written_parts(alloc: Global, portions: &[Portion<'_>]) -> Result<Written, NoM
         → record { cats = written.cats.items; prods = written.prods.items } ≡ sig) }
 {
     let names = category_texts(alloc, portions)?;
-    let texts = listed(alloc, portions)?;
-    let cats = written_categories(alloc, names.as_slice(), texts.as_slice(), portions)?;
-    let prods = made_productions(
-        alloc,
-        cats.as_slice(),
-        names.as_slice(),
-        texts.as_slice(),
-        portions,
-    )?;
+    let words = listed(alloc, portions)?;
+    let texts = indexed(alloc, words.as_slice())?;
+    let cats = written_categories(alloc, names.as_slice(), &texts, portions)?;
+    let prods = made_productions(alloc, cats.as_slice(), names.as_slice(), &texts, portions)?;
     Ok(Written { cats, prods })
 }
 

@@ -5,12 +5,13 @@ ghost use Rattle.sy_base.specs.Tokens.{PlainToken};
 ghost use Rattle.proof_lexer.specs.View.{kind_number, token_view};
 ghost use Rattle.outline_reader.specs.Plain.{plain_form};
 ghost use Rattle.binding_terms.specs.declared.grammar.Prod.{Prod};
+ghost use Rattle.user_grammar.specs.Indexed.{names_in};
 ghost use Rattle.user_grammar.specs.MadeItems.{AreBracketsFrom, IsNotOpened, taken_words};
-ghost use Rattle.user_grammar.specs.Names.{AllApart, AllDiffer, IsAmong, names};
+ghost use Rattle.user_grammar.specs.Names.{AllApart, AllDiffer, names};
 ghost use Rattle.user_grammar.specs.Production.{AreBrackets, AreItems, AreNumbers, IsProduction};
 
 use crate::made_tokens::{Meaning, Spot, is_mark, meaning_of};
-use crate::names::is_same;
+use crate::name_index::{NameIndex, indexed, place_of};
 use crate::portions::copied;
 use binding_terms::{Cat, CatId, Item, NoMemory, Prod};
 use outline_reader::Form;
@@ -129,21 +130,9 @@ fn binder_words<'a>(alloc: Global, cats: &[Cat], form: Form<'a>) -> Result<Vec<&
     Ok(all)
 }
 
-fn place_of(words: &[&[u8]], word: &[u8]) -> Option<usize>
-    ensures { MatchOption result (IsAmong (map (λ one. one.now) words.now) word.now → ⊥)
-        (λ n. (slice_get (map (λ one. one.now) words.now) n ≡ Some word.now) × (n < length words.now)) }
-{
-    for (number, one) in words.iter().enumerate() {
-        if is_same(one, word) {
-            return Some(number);
-        }
-    }
-    None
-}
-
 /// Puts the number of a word among the words of the binders at the end.
-fn add_number(own: &[&[u8]], word: &[u8], numbers: &mut Items<u32>) -> Result<(), NoMemory>
-    ensures { OnOk result (AllDiffer (map (λ one. one.now) own.now) → (n : ℕ) → slice_get (map (λ one. one.now) own.now) n ≡ Some word.now
+fn add_number(own: &NameIndex<'_>, word: &[u8], numbers: &mut Items<u32>) -> Result<(), NoMemory>
+    ensures { OnOk result (AllDiffer (names_in own.now) → (n : ℕ) → slice_get (names_in own.now) n ≡ Some word.now
         → numbers.new ≡ numbers.old ++ n ∷ []) }
 {
     match place_of(own, word) {
@@ -159,9 +148,9 @@ fn add_number(own: &[&[u8]], word: &[u8], numbers: &mut Items<u32>) -> Result<()
 }
 
 /// The numbers of some words among the words of the binders.
-fn numbers(alloc: Global, own: &[&[u8]], words: &[&[u8]]) -> Result<Items<u32>, NoMemory>
-    ensures { IfOk result (λ all. AllDiffer (map (λ one. one.now) own.now) → (binds : List ℕ)
-        → AreNumbers (map (λ one. one.now) own.now) (map (λ word. word.now) words.now) binds → all ≡ binds) }
+fn numbers(alloc: Global, own: &NameIndex<'_>, words: &[&[u8]]) -> Result<Items<u32>, NoMemory>
+    ensures { IfOk result (λ all. AllDiffer (names_in own.now) → (binds : List ℕ)
+        → AreNumbers (names_in own.now) (map (λ word. word.now) words.now) binds → all ≡ binds) }
 {
     let mut all = Items::new(alloc);
     for word in words {
@@ -182,16 +171,16 @@ fn terminal(alloc: Global, token: &Token<'_>) -> Result<Item, NoMemory>
 /// Puts the slot before some tokens at the end, and tells how many of these are its brackets.
 fn add_slot(
     alloc: Global,
-    own: &[&[u8]],
+    own: &NameIndex<'_>,
     cat: CatId,
     rest: Form<'_>,
     all: &mut Items<Item>,
 ) -> Result<usize, NoMemory>
     ensures within { IfOk result (λ count. count ≤ length rest.now) }
-    ensures added { IfOk result (λ count. AllDiffer (map (λ one. one.now) own.now)
+    ensures added { IfOk result (λ count. AllDiffer (names_in own.now)
         → (bound : List (List ℕ)) → (binds : List ℕ) → (left : List PlainToken)
         → AreBrackets bound (plain_form rest.now) left → IsNotOpened left
-        → AreNumbers (map (λ one. one.now) own.now) bound binds
+        → AreNumbers (names_in own.now) bound binds
         → (plain_form (drop count rest.now) ≡ left) × (all.new ≡ all.old ++ Item.Slot cat binds ∷ [])) }
 {
     let found = read_brackets(alloc, rest)?;
@@ -204,7 +193,7 @@ fn add_slot(
 fn add_item(
     alloc: Global,
     cats: &[Cat],
-    own: &[&[u8]],
+    own: &NameIndex<'_>,
     token: &Token<'_>,
     rest: Form<'_>,
     all: &mut Items<Item>,
@@ -212,11 +201,11 @@ fn add_item(
     requires few { length cats.now < 2 ^ 32 }
     requires apart { AllApart (names cats.now) }
     ensures within { IfOk result (λ count. count ≤ length rest.now) }
-    ensures added { IfOk result (λ count. AllDiffer (map (λ one. one.now) own.now)
+    ensures added { IfOk result (λ count. AllDiffer (names_in own.now)
         → (listed : List (List ℕ)) → (items : List Item) → (words : List (List ℕ))
-        → AreItems cats.now listed (map (λ one. one.now) own.now) (token_view token.now ∷ plain_form rest.now) items words
+        → AreItems cats.now listed (names_in own.now) (token_view token.now ∷ plain_form rest.now) items words
         → (left : List Item) × (left_words : List (List ℕ))
-        × AreItems cats.now listed (map (λ one. one.now) own.now) (plain_form (drop count rest.now)) left left_words
+        × AreItems cats.now listed (names_in own.now) (plain_form (drop count rest.now)) left left_words
         × (all.new ++ left ≡ all.old ++ items)) }
 {
     match meaning_of(cats, token) {
@@ -236,14 +225,14 @@ fn add_item(
 fn items(
     alloc: Global,
     cats: &[Cat],
-    own: &[&[u8]],
+    own: &NameIndex<'_>,
     form: Form<'_>,
 ) -> Result<Items<Item>, NoMemory>
     requires few { length cats.now < 2 ^ 32 }
     requires apart { AllApart (names cats.now) }
-    ensures { IfOk result (λ all. AllDiffer (map (λ one. one.now) own.now)
+    ensures { IfOk result (λ all. AllDiffer (names_in own.now)
         → (listed : List (List ℕ)) → (items : List Item) → (words : List (List ℕ))
-        → AreItems cats.now listed (map (λ one. one.now) own.now) (plain_form form.now) items words → all ≡ items) }
+        → AreItems cats.now listed (names_in own.now) (plain_form form.now) items words → all ≡ items) }
 {
     let mut all = Items::new(alloc);
     let mut left = form;
@@ -266,9 +255,10 @@ pub fn production(
     ensures { IfOk result (λ made. (listed : List (List ℕ)) → (prod : Prod)
         → IsProduction cats.now listed number.0 (plain_form form.now) prod → made ≡ prod) }
 {
-    let own = binder_words(alloc, cats, form)?;
+    let words = binder_words(alloc, cats, form)?;
+    let own = indexed(alloc, words.as_slice())?;
     Ok(Prod {
         cat: number,
-        items: items(alloc, cats, own.as_slice(), form)?,
+        items: items(alloc, cats, &own, form)?,
     })
 }

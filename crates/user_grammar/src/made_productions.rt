@@ -9,12 +9,14 @@ ghost use Rattle.outline_reader.specs.Plain.{plain_form, plain_portion};
 ghost use Rattle.outline_reader.specs.Views.{portion_view};
 ghost use Rattle.user_grammar.specs.File.{WrittenCategory, assumed, assumed_in, categories, category_in, texts_if};
 ghost use Rattle.user_grammar.specs.Grammar.{AreForms, AreProductions};
+ghost use Rattle.user_grammar.specs.Indexed.{names_in};
 ghost use Rattle.user_grammar.specs.Made.{plains};
 ghost use Rattle.user_grammar.specs.MadeItems.{IsFirstVariable, IsMadeCategory};
 ghost use Rattle.user_grammar.specs.Names.{AllApart, IsAmong, category_names, names};
 
 use crate::made_forms::production;
 use crate::made_tokens::{is_among, is_variable, lone_variable};
+use crate::name_index::NameIndex;
 use crate::portions::copied;
 use binding_terms::{Cat, CatId, NoMemory, Prod, Text};
 use outline_reader::{Form, Name, Portion};
@@ -88,10 +90,10 @@ pub fn assumed_texts<'a>(alloc: Global, portions: &[Portion<'a>]) -> Result<Vec<
 fn variable(
     alloc: Global,
     names: &[&[u8]],
-    listed: &[&[u8]],
+    listed: &NameIndex<'_>,
     forms: &[Form<'_>],
 ) -> Result<Option<Text>, NoMemory>
-    ensures { IfOk result (λ var. IsFirstVariable (map (λ name. name.now) names.now) (map (λ text. text.now) listed.now)
+    ensures { IfOk result (λ var. IsFirstVariable (map (λ name. name.now) names.now) (names_in listed.now)
         (map plain_form (map (λ form. form.now) forms.now)) var) }
 {
     for form in forms {
@@ -105,12 +107,12 @@ fn variable(
 fn made_category(
     alloc: Global,
     names: &[&[u8]],
-    listed: &[&[u8]],
+    listed: &NameIndex<'_>,
     assumed: &[&[u8]],
     name: &Token<'_>,
     forms: &[Form<'_>],
 ) -> Result<Cat, NoMemory>
-    ensures { IfOk result (λ cat. IsMadeCategory (map (λ name. name.now) names.now) (map (λ text. text.now) listed.now)
+    ensures { IfOk result (λ cat. IsMadeCategory (map (λ name. name.now) names.now) (names_in listed.now)
         (map (λ text. text.now) assumed.now)
         (record { name = token_view name.now; forms = map plain_form (map (λ form. form.now) forms.now) }) cat) }
 {
@@ -124,13 +126,13 @@ fn made_category(
 fn add_made_category(
     alloc: Global,
     names: &[&[u8]],
-    listed: &[&[u8]],
+    listed: &NameIndex<'_>,
     assumed: &[&[u8]],
     portion: &Portion<'_>,
     cats: &mut Vec<Cat>,
 ) -> Result<(), NoMemory>
     ensures { OnOk result ((own : List Cat) × (cats.new.items ≡ cats.old.items ++ own)
-        × AllZip (IsMadeCategory (map (λ name. name.now) names.now) (map (λ text. text.now) listed.now)
+        × AllZip (IsMadeCategory (map (λ name. name.now) names.now) (names_in listed.now)
         (map (λ text. text.now) assumed.now)) (category_in (plain_portion (portion_view portion.now))) own) }
 {
     match portion {
@@ -147,12 +149,12 @@ fn add_made_category(
 pub fn made_categories(
     alloc: Global,
     names: &[&[u8]],
-    listed: &[&[u8]],
+    listed: &NameIndex<'_>,
     assumed: &[&[u8]],
     portions: &[Portion<'_>],
 ) -> Result<Vec<Cat>, NoMemory>
     ensures { IfOk result (λ cats. AllZip (IsMadeCategory (map (λ name. name.now) names.now)
-        (map (λ text. text.now) listed.now) (map (λ text. text.now) assumed.now)) (categories (plains portions.now)) cats.items) }
+        (names_in listed.now) (map (λ text. text.now) assumed.now)) (categories (plains portions.now)) cats.items) }
 {
     let mut cats = Vec::new(alloc);
     for portion in portions {
@@ -166,7 +168,7 @@ fn add_form(
     alloc: Global,
     cats: &[Cat],
     cat_names: &[&[u8]],
-    listed: &[&[u8]],
+    listed: &NameIndex<'_>,
     number: CatId,
     form: Form<'_>,
     prods: &mut Vec<Prod>,
@@ -175,9 +177,9 @@ fn add_form(
     requires apart { AllApart (names cats.now) }
     requires named { map (λ name. name.now) cat_names.now ≡ category_names cats.now }
     ensures { OnOk result ((var : Option (List ℕ)) → (forms : List (List PlainToken)) → (own : List Prod)
-        → AreForms cats.now (map (λ text. text.now) listed.now) number.0 var (plain_form form.now ∷ forms) own
+        → AreForms cats.now (names_in listed.now) number.0 var (plain_form form.now ∷ forms) own
         → (left_var : Option (List ℕ)) × (left : List Prod)
-        × AreForms cats.now (map (λ text. text.now) listed.now) number.0 left_var forms left
+        × AreForms cats.now (names_in listed.now) number.0 left_var forms left
         × (prods.new.items ++ left ≡ prods.old.items ++ own)) }
 {
     if is_variable(cat_names, listed, form) {
@@ -192,7 +194,7 @@ fn add_forms(
     alloc: Global,
     cats: &[Cat],
     cat_names: &[&[u8]],
-    listed: &[&[u8]],
+    listed: &NameIndex<'_>,
     number: CatId,
     forms: &[Form<'_>],
     prods: &mut Vec<Prod>,
@@ -201,7 +203,7 @@ fn add_forms(
     requires apart { AllApart (names cats.now) }
     requires named { map (λ name. name.now) cat_names.now ≡ category_names cats.now }
     ensures { OnOk result ((var : Option (List ℕ)) → (own : List Prod)
-        → AreForms cats.now (map (λ text. text.now) listed.now) number.0 var (map plain_form (map (λ form. form.now) forms.now)) own
+        → AreForms cats.now (names_in listed.now) number.0 var (map plain_form (map (λ form. form.now) forms.now)) own
         → prods.new.items ≡ prods.old.items ++ own) }
 {
     for form in forms {
@@ -215,7 +217,7 @@ fn add_made(
     alloc: Global,
     cats: &[Cat],
     cat_names: &[&[u8]],
-    listed: &[&[u8]],
+    listed: &NameIndex<'_>,
     number: u32,
     portion: &Portion<'_>,
     prods: &mut Vec<Prod>,
@@ -224,10 +226,10 @@ fn add_made(
     requires apart { AllApart (names cats.now) }
     requires named { map (λ name. name.now) cat_names.now ≡ category_names cats.now }
     ensures { IfOk result (λ next. (written : List WrittenCategory) → (vars : List (Option (List ℕ))) → (own : List Prod)
-        → AreProductions cats.now (map (λ text. text.now) listed.now) number
+        → AreProductions cats.now (names_in listed.now) number
         (category_in (plain_portion (portion_view portion.now)) ++ written) vars own
         → (left_vars : List (Option (List ℕ))) × (left : List Prod)
-        × AreProductions cats.now (map (λ text. text.now) listed.now) next written left_vars left
+        × AreProductions cats.now (names_in listed.now) next written left_vars left
         × (prods.new.items ++ left ≡ prods.old.items ++ own)) }
 {
     match portion {
@@ -248,14 +250,14 @@ pub fn made_productions(
     alloc: Global,
     cats: &[Cat],
     cat_names: &[&[u8]],
-    listed: &[&[u8]],
+    listed: &NameIndex<'_>,
     portions: &[Portion<'_>],
 ) -> Result<Vec<Prod>, NoMemory>
     requires few { length cats.now < 2 ^ 32 }
     requires apart { AllApart (names cats.now) }
     requires named { map (λ name. name.now) cat_names.now ≡ category_names cats.now }
     ensures { IfOk result (λ prods. (vars : List (Option (List ℕ))) → (own : List Prod)
-        → AreProductions cats.now (map (λ text. text.now) listed.now) 0 (categories (plains portions.now)) vars own
+        → AreProductions cats.now (names_in listed.now) 0 (categories (plains portions.now)) vars own
         → prods.items ≡ own) }
 {
     let mut prods = Vec::new(alloc);

@@ -3,10 +3,12 @@ ghost use Rattle.std.specs.Prelude.{◌≡◌, ◌≢◌, ◌↔◌, ◌<◌, �
 ghost use Rattle.proof_lexer.specs.View.{kind_number, token_view};
 ghost use Rattle.rule_schemes.specs.Reading.{IsSpelling};
 ghost use Rattle.outline_reader.specs.Plain.{plain_form};
+ghost use Rattle.user_grammar.specs.Indexed.{names_in};
 ghost use Rattle.user_grammar.specs.MadeItems.{IsBinderSpelling, Means, WordMeans};
 ghost use Rattle.user_grammar.specs.Names.{IsAmong, IsCategoryWord, IsNoSpelling, category_names, names, variable_names};
 ghost use Rattle.user_grammar.specs.Production.{IsMark, IsVariable};
 
+use crate::name_index::{NameIndex, has_name};
 use crate::names::{category_of, is_same};
 use crate::spelling::is_spelling;
 use binding_terms::{Cat, CatId};
@@ -113,26 +115,26 @@ fn spells_none(names: &[&[u8]], word: &[u8]) -> bool
     true
 }
 
-fn is_variable_token(names: &[&[u8]], listed: &[&[u8]], token: &Token<'_>) -> bool
-    ensures { IsTrue result ↔ IsVariable (map (λ name. name.now) names.now) (map (λ text. text.now) listed.now)
+fn is_variable_token(names: &[&[u8]], listed: &NameIndex<'_>, token: &Token<'_>) -> bool
+    ensures { IsTrue result ↔ IsVariable (map (λ name. name.now) names.now) (names_in listed.now)
         (token_view token.now ∷ []) }
 {
     token.kind == Kind::Word
         && !is_numeral(token.text)
-        && !is_among(listed, token.text.as_bytes())
+        && !has_name(listed, token.text.as_bytes())
         && spells_none(names, token.text.as_bytes())
 }
 
 /// The word of a form that is a word alone, no listed terminal, no numeral and no category: it is a variable.
 pub fn lone_variable<'a>(
     names: &[&[u8]],
-    listed: &[&[u8]],
+    listed: &NameIndex<'_>,
     form: &'a [Token<'a>],
 ) -> Option<&'a Token<'a>>
     ensures { MatchOption result
-        (IsVariable (map (λ name. name.now) names.now) (map (λ text. text.now) listed.now) (plain_form form.now) → ⊥)
+        (IsVariable (map (λ name. name.now) names.now) (names_in listed.now) (plain_form form.now) → ⊥)
         (λ token. (plain_form form.now ≡ token_view token.now ∷ [])
-        × IsVariable (map (λ name. name.now) names.now) (map (λ text. text.now) listed.now) (token_view token.now ∷ [])) }
+        × IsVariable (map (λ name. name.now) names.now) (names_in listed.now) (token_view token.now ∷ [])) }
 {
     match form {
         [token] => {
@@ -146,8 +148,8 @@ pub fn lone_variable<'a>(
 }
 
 /// Whether a form is a variable.
-pub fn is_variable(names: &[&[u8]], listed: &[&[u8]], form: &[Token<'_>]) -> bool
-    ensures { IsTrue result ↔ IsVariable (map (λ name. name.now) names.now) (map (λ text. text.now) listed.now)
+pub fn is_variable(names: &[&[u8]], listed: &NameIndex<'_>, form: &[Token<'_>]) -> bool
+    ensures { IsTrue result ↔ IsVariable (map (λ name. name.now) names.now) (names_in listed.now)
         (plain_form form.now) }
 {
     match form {

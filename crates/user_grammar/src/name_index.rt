@@ -1,7 +1,7 @@
 // Names with look-up by name.
-ghost use Rattle.std.specs.Prelude.{◌≡◌, ◌↔◌, [], IsTrue, IfOk, OnOk, map};
+ghost use Rattle.std.specs.Prelude.{◌≡◌, ◌↔◌, [], IsTrue, IfOk, OnOk, Some, map, slice_get, MatchOption};
 ghost use Rattle.user_grammar.specs.Indexed.{HaveSame, IsAdded, names_in};
-ghost use Rattle.user_grammar.specs.Names.{IsAmong};
+ghost use Rattle.user_grammar.specs.Names.{AllDiffer, IsAmong};
 
 use binding_terms::NoMemory;
 use indexmap::IndexSet;
@@ -37,9 +37,19 @@ pub fn has_name(index: &NameIndex<'_>, word: &[u8]) -> bool
     index.names.contains(word)
 }
 
+/// The place of a word among the names.
+pub fn place_of(index: &NameIndex<'_>, word: &[u8]) -> Option<usize>
+    ensures { MatchOption result (IsAmong (names_in index.now) word.now → ⊥)
+        (λ n. slice_get (names_in index.now) n ≡ Some word.now) }
+{
+    index.names.get_index_of(word)
+}
+
 /// Some texts, in their order, each once.
 pub fn indexed<'a>(alloc: Global, texts: &[&'a [u8]]) -> Result<NameIndex<'a>, NoMemory>
-    ensures { IfOk result (λ index. HaveSame (names_in index) (map (λ text. text.now) texts.now)) }
+    ensures same { IfOk result (λ index. HaveSame (names_in index) (map (λ text. text.now) texts.now)) }
+    ensures in_order { IfOk result (λ index. AllDiffer (map (λ text. text.now) texts.now)
+        → names_in index ≡ map (λ text. text.now) texts.now) }
 {
     let mut index = no_names(alloc);
     for text in texts {

@@ -1,17 +1,16 @@
-use Rattle.std.proofs.Common.{[], map, take, sym, subst}
-use Rattle.proof_lexer.specs.View.{token_view}
+use Rattle.std.proofs.Common.{[], take, sym, subst}
 use Rattle.outline_reader.specs.Plain.{plain_form}
 use Rattle.user_grammar.specs.Fault.{IsPlaceBehind, at_start}
 use Rattle.user_grammar.specs.Finding.{portions_of}
-use Rattle.user_grammar.specs.FindingPlaces.{AreBinders, no_binders, walk_view}
-use Rattle.user_grammar.proofs.FaultTokens.{place_more, binders_more}
+use Rattle.user_grammar.specs.FindingPlaces.{walk_view}
+use Rattle.user_grammar.proofs.FaultTokens.{place_more, binders_more, no_words_yet}
 use Rattle.user_grammar.proofs.fault_place.binders.Goals as goal
 
 pub loop-token-init : goal.loop-token-init
 loop-token-init c =
     let P = portions_of c.args.names.now.lists in (
       subst (IsPlaceBehind P []) (sym c.start-walk.ensures) at_start,
-      subst (λ xs. AreBinders P [] (map (λ name. token_view name.now) xs)) (sym c.new-all.ensures.items) no_binders,
+      no_words_yet P _ c.no_names-all.ensures,
     )
 
 pub loop-token-preserved : goal.loop-token-preserved

@@ -1,6 +1,7 @@
 use Rattle.std.proofs.Common.{◌∙◌, ap, map, subst}
 use Rattle.std.specs.List.{AllZip}
 use Rattle.user_grammar.specs.File.{assumed, categories}
+use Rattle.user_grammar.specs.Indexed.{names_in}
 use Rattle.user_grammar.specs.Made.{plains}
 use Rattle.user_grammar.specs.MadeItems.{IsMadeCategory}
 use Rattle.user_grammar.proofs.MadeCategories.{made_are}
@@ -14,4 +15,4 @@ returns-clause-are c = λ sig is.
     let told = ap (map (λ text. text.now)) c.as_slice.ensures.value ∙ c.in_ok-assumed.ensures in
     made_are portions names cats sig is c.requires.named
     (subst (λ texts. AllZip (IsMadeCategory names texts (assumed portions)) (categories portions) cats) c.requires.are_listed
-    (subst (λ texts. AllZip (IsMadeCategory names (map (λ text. text.now) c.args.texts.now) texts) (categories portions) cats) told c.in_ok-cats.ensures))
+    (subst (λ texts. AllZip (IsMadeCategory names (names_in c.args.texts.now) texts) (categories portions) cats) told c.in_ok-cats.ensures))
