@@ -6,6 +6,10 @@ mod grammar_rows;
 #[cfg(test)]
 mod grammars;
 #[cfg(test)]
+mod known_names;
+#[cfg(test)]
+mod new_names;
+#[cfg(test)]
 mod outlines;
 #[cfg(test)]
 mod readings;

@@ -1,10 +1,6 @@
 // The readings of forms with binders, variables and contexts, as texts.
-ghost use Rattle.std.specs.Prelude.{◌≡◌, IfOk};
-ghost use Rattle.rule_schemes.specs.Reading.{not_fresh};
-ghost use Rattle.notation_parser.specs.View.{reading_scope};
-
 use binding_terms::{CatId, Item, NoMemory, Sig, Text};
-use notation_parser::{Fresh, ReadScope, Reading, Said, Want, Written, is_readable, read};
+use notation_parser::{Fresh, ReadScope, Reading, Said, Want, Written, can_read, read};
 use outline_reader::{Outline, outline};
 use proof_lexer::{Token, lex};
 use rule_schemes::{JScheme, Judgment};
@@ -16,27 +12,27 @@ use user_grammar::grammar;
 
 /// Functions over types, with contexts: the categories are T, t and Gamma, and the productions `unit` (0) and `T -> T` (1),
 /// `fn x : T => t[x]` (2), `t t` (3) and `unit` (4), `*` (5) and `Gamma, x : T` (6).
-const FUNCTIONS: &str = "terminals fn unit
+pub(crate) const FUNCTIONS: &str = "terminals fn unit
 syntax
 T ::= unit | T -> T
 t ::= fn x : T => t[x] | t t | x | unit
 Gamma ::= * | Gamma, x : T
 ";
 
-fn text(alloc: Global, written: &str) -> Result<Text, NoMemory> {
+pub(crate) fn text(alloc: Global, written: &str) -> Result<Text, NoMemory> {
     let mut text = Text::new(alloc);
     text.push(written.as_bytes())?;
     Ok(text)
 }
 
-fn slot(alloc: Global, cat: u32) -> Item {
+pub(crate) fn slot(alloc: Global, cat: u32) -> Item {
     Item::Slot {
         cat: CatId(cat),
         binds: Items::new(alloc),
     }
 }
 
-fn terminal(alloc: Global, word: &str) -> Result<Item, NoMemory> {
+pub(crate) fn terminal(alloc: Global, word: &str) -> Result<Item, NoMemory> {
     Ok(Item::Word {
         text: text(alloc, word)?,
         quoted: false,
@@ -44,7 +40,7 @@ fn terminal(alloc: Global, word: &str) -> Result<Item, NoMemory> {
 }
 
 /// `Gamma |- t : T` over a context, and `t value` without one.
-fn judgments(alloc: Global) -> Result<Vec<Judgment>, NoMemory> {
+pub(crate) fn judgments(alloc: Global) -> Result<Vec<Judgment>, NoMemory> {
     let mut typing = Items::new(alloc);
     typing.push(slot(alloc, 2))?;
     typing.push(terminal(alloc, "|-")?)?;
@@ -68,7 +64,12 @@ fn judgments(alloc: Global) -> Result<Vec<Judgment>, NoMemory> {
     Ok(all)
 }
 
-fn meta(alloc: Global, name: &str, cat: u32, params: usize) -> Result<MetaDecl, NoMemory> {
+pub(crate) fn meta(
+    alloc: Global,
+    name: &str,
+    cat: u32,
+    params: usize,
+) -> Result<MetaDecl, NoMemory> {
     let mut cats = Items::new(alloc);
     for _ in 0..params {
         cats.push(CatId(1))?;
@@ -82,9 +83,7 @@ fn meta(alloc: Global, name: &str, cat: u32, params: usize) -> Result<MetaDecl, 
 
 /// A scope with the root Gamma, the metavariables T, `t` with two parameters and `x9` (0 to 2), and the variable `x9` before the
 /// form.
-fn scope(alloc: Global) -> Result<ReadScope, NoMemory>
-    ensures { IfOk result (λ s. (reading_scope s).fresh ≡ not_fresh) }
-{
+fn scope(alloc: Global) -> Result<ReadScope, NoMemory> {
     let mut metas = Items::new(alloc);
     metas.push(meta(alloc, "T", 0, 0)?)?;
     metas.push(meta(alloc, "t", 1, 2)?)?;
@@ -184,7 +183,20 @@ fn add_written(alloc: Global, out: &mut String, written: &Written) -> Result<(),
     }
 }
 
-/// The new metavariables with how many parameters each has, and the known variables with their entries.
+/// A name, its category and in brackets the categories of its parameters.
+fn add_meta(alloc: Global, out: &mut String, meta: &MetaDecl) -> Result<(), AllocError> {
+    let name = String::from_utf8_lossy(alloc, meta.name.bytes())?;
+    out.push_str("; ")?;
+    out.push_str(name.as_str())?;
+    add_number(alloc, out, "/", meta.cat.0 as usize)?;
+    for cat in meta.params.as_slice() {
+        add_number(alloc, out, "[", cat.0 as usize)?;
+        out.push_str("]")?;
+    }
+    Ok(())
+}
+
+/// The new metavariables, and the known variables with their entries.
 fn add_names(
     alloc: Global,
     out: &mut String,
@@ -192,10 +204,7 @@ fn add_names(
     knowns: &[KnownDecl],
 ) -> Result<(), AllocError> {
     for meta in metas {
-        let name = String::from_utf8_lossy(alloc, meta.name.bytes())?;
-        out.push_str("; ")?;
-        out.push_str(name.as_str())?;
-        add_number(alloc, out, "/", meta.params.len())?;
+        add_meta(alloc, out, meta)?;
     }
     for known in knowns {
         let name = String::from_utf8_lossy(alloc, known.name.bytes())?;
@@ -230,17 +239,15 @@ fn reading_told(alloc: Global, reading: &Reading) -> Result<String, AllocError> 
 }
 
 /// How the tokens read over these judgments and names, as a text.
-fn over_told(
+pub(crate) fn over_told(
     alloc: Global,
     sig: &Sig,
     judgments: &Vec<Judgment>,
     scope: &ReadScope,
     want: Want,
     tokens: &[Token<'_>],
-) -> Result<String, AllocError>
-    requires { (reading_scope scope.now).fresh ≡ not_fresh }
-{
-    if is_readable(judgments, scope) {
+) -> Result<String, AllocError> {
+    if can_read(sig, judgments, scope) {
         return match read(alloc, sig, judgments, scope, want, tokens) {
             Ok(reading) => reading_told(alloc, &reading),
             Err(_) => String::from_str(alloc, "no memory"),
@@ -279,9 +286,12 @@ fn tokens_made(alloc: Global, tokens: &Vec<Token<'_>>) -> Option<Sig> {
     }
 }
 
-/// The signature of the functions.
-fn functions(alloc: Global) -> Option<Sig> {
-    match lex(alloc, FUNCTIONS.as_bytes()) {
+/// The signature of a grammar.
+pub(crate) fn signature(alloc: Global, source: &str) -> Option<Sig> {
+    if 1 << 20 < source.len() {
+        return None;
+    }
+    match lex(alloc, source.as_bytes()) {
         Ok(tokens) => tokens_made(alloc, &tokens),
         Err(_) => None,
     }
@@ -292,7 +302,7 @@ fn told(alloc: Global, want: Want, form: &str) -> Result<String, AllocError> {
     if 1 << 20 < form.len() {
         return String::from_str(alloc, "too long");
     }
-    let Some(sig) = functions(alloc) else {
+    let Some(sig) = signature(alloc, FUNCTIONS) else {
         return String::from_str(alloc, "no signature");
     };
     match lex(alloc, form.as_bytes()) {
