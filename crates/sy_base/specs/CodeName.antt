@@ -1,4 +1,4 @@
--- The names of the codes, as they are printed. To be held against docs/faults.md.
+-- The names of the codes, as they are printed. To be held against 'Faults' of docs/notation.md.
 use Rattle.std.specs.Prelude.{ℕ, List, codes}
 use Rattle.sy_base.specs.declared.fault.Code.{Code}
 use Rattle.sy_base.specs.declared.fault.Code.TheVariants.{NotUtf8, OpenComment, OpenQuote, Unexpected, MissingEnd, TooMany, NotBuilt, Duplicate, EmptyProduction, SingleCategory, UnknownWord, BadBinder, BinderTwice, BadContext, NameTaken, TooLong, NoReading, Ambiguous, UnknownName, BadConclusion, NotStrict, NeedsContext, TwoAssumptions, TargetCount, NoRule, NoTheorem, NoName, WrongCount, RootMismatch, ArgMismatch, ResultMismatch, NotInstance, BadStep, NoContext, NotLast, NoAssumptionRule, NotTheAssumption, Depends, NotSmaller, Outside, MissingCase, DuplicateCase, ImpossibleCase, NotMostGeneral, NotTheGoal, WrongInputs, TooBig}
