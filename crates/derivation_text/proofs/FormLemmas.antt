@@ -110,7 +110,7 @@ module _ (th : Theory) (bare : HasNoContexts th) where
   judgment_reads : {ts : List Token} {j : JudgmentScheme} {ks : List KnownVariable} → ReadsJudgment th.sig th.judgments (scope_at nothing_around) [] ts j ks → IsClosed th j × (ks ≡ [])
   judgment_reads (without_context {k = k} {j = j} {ss = ss} e c r) =
       (record { form = record { root = refl; entries = refl }; judged = judged k j ss e c (form_reads th.sig bare.plain.sig r refl refl) }, refl)
-  judgment_reads (with_context {k = k} {j = j} {id = id} e c ctx r) = no_context_of k j id e c
+  judgment_reads (with_context {k = k} {j = j} {id = id} e c once ctx r) = no_context_of k j id e c
 
   wanted_reads : {ts : List Token} {want : Want} {w : Written} {ks : List KnownVariable} → ReadsWanted th.sig th.judgments (scope_at nothing_around) [] ts want w ks
       → want ≡ want_judgment → AtJudgment (IsClosed th) w × (ks ≡ [])
@@ -166,7 +166,7 @@ over th sig js scope ts r e f g h =
     (subst (λ (v : ReadingScope). IsAnswer sig js v want_judgment ts r) g h))
 
 -- forms are readable where there is no context
-pub readable : (th : Theory) → HasNoContexts th → IsReadable th.sig th.judgments (scope_at nothing_around)
+pub readable : (th : Theory) → HasNoContexts th → IsReadable (scope_at nothing_around)
 readable th h =
     plain_readable th.sig th.judgments (scope_at nothing_around) want_judgment
     (record {

@@ -42,7 +42,7 @@ module _ (sig : Signature) (js : List Judgment) (bare : IsBareSignature sig) (cl
       → scope.names.knowns ≡ [] → AllByRecursion (λ (m : MetaDecl). m.params ≡ []) ms → HasNoBracket ts
   judgment_tokens {ms = ms} (without_context g c r) kn plain =
       form_tokens sig ms bare plain r (ap (known_words sig 0) kn) refl
-  judgment_tokens (with_context {k = k} {j = j} {id = id} g c ctx r) kn plain =
+  judgment_tokens (with_context {k = k} {j = j} {id = id} g c once ctx r) kn plain =
       (let never : None ≡ Some id = sym (all_at IsBareJudgment js k j closed g).no_context ∙ c in cc)
 
   -- the names have the metavariables that stand in the judgment
@@ -57,7 +57,7 @@ module _ (sig : Signature) (js : List Judgment) (bare : IsBareSignature sig) (cl
       subst (λ found. MatchOption found ⊥ (λ form. IsRootOf form.ctx Closed × (◌≡◌ {A = List SchemeEntry} [] []) × AreSchemes th.sig names [] (argument_slots form.ctx (slots form.items)) ss)) (sym found)
       (subst (λ o. IsRootOf o Closed × (◌≡◌ {A = List SchemeEntry} [] []) × AreSchemes th.sig names [] (argument_slots o (slots j.items)) ss) (sym c)
       (tt, refl, subst (λ (s : Signature). AreSchemes s names [] (slots j.items) ss) (sym es) schemes))
-  judgment_in_scope th names es ej (with_context {k = k} {j = j} {id = id} g c ctx r) kn plain has =
+  judgment_in_scope th names es ej (with_context {k = k} {j = j} {id = id} g c once ctx r) kn plain has =
       (let never : None ≡ Some id = sym (all_at IsBareJudgment js k j closed g).no_context ∙ c in cc)
 
   -- the judgment that a form reads as

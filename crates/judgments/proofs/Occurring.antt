@@ -72,7 +72,7 @@ module _ (sig : Signature) (js : List Judgment) (bare : IsBareSignature sig) (cl
       → (m : ℕ) → OccursInJudgment m j → NumberStands names.metas ts m
   judgment_numbers (without_context g c r) kn m (inl o) = absurd o
   judgment_numbers (without_context g c r) kn m (inr o) = form_numbers sig names.metas bare plain.parameters r (ap (known_words sig 0) kn) refl m o
-  judgment_numbers (with_context {k = k} {j = j} {id = id} g c ctx r) kn m o =
+  judgment_numbers (with_context {k = k} {j = j} {id = id} g c once ctx r) kn m o =
       absurd (let never : None ≡ Some id = sym (all_at IsBareJudgment js k j closed g).no_context ∙ c in cc)
 
   -- what stands in the judgment stands in its form

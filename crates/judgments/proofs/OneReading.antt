@@ -52,7 +52,7 @@ module _ (sig : Signature) (js : List Judgment) (names : Names) (ts : List Token
   no_known none (reads_term r) e = cc
   no_known none (reads_context {c = c} r) e = cc
   no_known none (reads_judgment (without_context g c r)) e = refl
-  no_known none (reads_judgment (with_context {k = k} {j = j} {id = id} g c ctx r)) e =
+  no_known none (reads_judgment (with_context {k = k} {j = j} {id = id} g c once ctx r)) e =
       (let never : None ≡ Some id = sym (all_at (λ (j : Judgment). j.ctx ≡ None) js k j none g) ∙ c in cc)
 
   said_so : (said : Said) (j : JudgmentScheme) → said.written ≡ a_judgment j → said.metas ≡ [] → said.knowns ≡ [] → said ≡ record { written = a_judgment j; metas = []; knowns = [] }

@@ -51,7 +51,7 @@ module _ (sig : Signature) (js : List Judgment) (bare : IsBareSignature sig) (ap
   context_of : {scope : ReadingScope} {ms : List MetaDecl} {ts : List Token} {j : JudgmentScheme} {ks : List KnownVariable} → ReadsJudgment sig js scope ms ts j ks
       → j.context ≡ record { root = Closed; entries = [] }
   context_of (without_context g c r) = refl
-  context_of (with_context {k = k} {j = j} {id = id} g c ctx r) = (let never : None ≡ Some id = sym (all_at IsBareJudgment js k j closed g).no_context ∙ c in cc)
+  context_of (with_context {k = k} {j = j} {id = id} g c once ctx r) = (let never : None ≡ Some id = sym (all_at IsBareJudgment js k j closed g).no_context ∙ c in cc)
 
   pub no_context_read : (names : Names) (form : List Token) (j : JudgmentScheme) → ReadsOnlyAs sig js names form j → j.context ≡ record { root = Closed; entries = [] }
   no_context_read names form j h = context_of (reads_as sig js bare closed names form j h)

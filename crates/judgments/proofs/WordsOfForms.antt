@@ -99,8 +99,8 @@ module _ (sig : Signature) where
 
   module _ (no_variable : AllByRecursion (λ (k : Cat). k.var ≡ None) sig.cats) where
     no_words : {ts : List Token} {ws : List (List ℕ)} {cs : List ℕ} → TellsWords sig ts ws cs → ⊥
-    no_words (comma {w = w} {c = c} h r) = not_variable sig.cats c w no_variable h
-    no_words (close_bracket {w = w} {c = c} h r) = not_variable sig.cats c w no_variable h
+    no_words (comma {w = w} {c = c} h r) = not_variable sig.cats c w no_variable h.here
+    no_words (close_bracket {w = w} {c = c} h r) = not_variable sig.cats c w no_variable h.here
 
     no_cats : {ts : List Token} {ws : List (List ℕ)} {cs : List ℕ} → TellsBrackets sig ts ws cs → cs ≡ []
     no_cats at_end = refl

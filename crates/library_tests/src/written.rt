@@ -1,6 +1,6 @@
 // The readings of forms with binders, variables and contexts, as texts.
 use binding_terms::{CatId, Item, NoMemory, Sig, Text};
-use notation_parser::{Fresh, ReadScope, Reading, Said, Want, Written, can_read, read};
+use notation_parser::{Fresh, ReadScope, Reading, Said, Want, Written, is_readable, read};
 use outline_reader::{Outline, outline};
 use proof_lexer::{Token, lex};
 use rule_schemes::{JScheme, Judgment};
@@ -247,7 +247,7 @@ pub(crate) fn over_told(
     want: Want,
     tokens: &[Token<'_>],
 ) -> Result<String, AllocError> {
-    if can_read(sig, judgments, scope) {
+    if is_readable(scope) {
         return match read(alloc, sig, judgments, scope, want, tokens) {
             Ok(reading) => reading_told(alloc, &reading),
             Err(_) => String::from_str(alloc, "no memory"),

@@ -1,7 +1,6 @@
 -- The readings of judgments by their forms, with and without a context, each judgment before all that follow it.
 use Rattle.std.proofs.Common.{◌≡◌, ◌⊎◌, ◌↔◌, ◌==◌, ℕ, ◌+◌, ◌<◌, ◌≤◌, List, [], length, map, inl, inr, refl, ap, ◌∙◌, sym, subst, arith, Some, None, slice_get}
-use Rattle.std.specs.Prelude.{count_by, MatchOption}
-use Rattle.std.specs.List.{AllByRecursion}
+use Rattle.std.specs.Prelude.{count_by}
 use Rattle.std.proofs.lemmas.Bool.{cases_lt}
 use Rattle.std.proofs.lemmas.Option.{slice_get_within}
 use Rattle.binding_terms.specs.Signature.{Signature, slots}
@@ -17,10 +16,8 @@ use Rattle.term_reader.specs.Firsts.{listed, AreFirst, IsFull}
 use Rattle.term_reader.specs.Splitting.{IsMapped}
 use Rattle.term_reader.specs.declared.firsts.Firsts.{Firsts}
 use Rattle.term_reader.proofs.Finding.{AreFirst-same, AreFirst-map, AreFirst-full}
-use Rattle.term_reader.proofs.TermCases.{all_at}
 use Rattle.notation_parser.specs.Forms.{IsFormOf, closed_judgment, judgment_of, closed_form, judged, IsOpenForm, IsReadAs, IsReadAsAny}
 use Rattle.notation_parser.specs.Ordered.{WrittenForm}
-use Rattle.notation_parser.specs.Plain.{HasOneContext}
 use Rattle.notation_parser.specs.View.{outcome}
 use Rattle.notation_parser.specs.declared.outcomes.Outcome.{Outcome}
 use Rattle.notation_parser.proofs.FormCases.{shaped, none_of_none, ReadsFormAt, form_items, made_form, by_items}
@@ -28,13 +25,6 @@ use Rattle.notation_parser.proofs.FormCases.{shaped, none_of_none, ReadsFormAt, 
 -- where no context is read
 abbrev nowhere : Way
 nowhere = way 0 [] no_ways
-
--- the form of a judgment over a context has one slot of it
-pub form_with_one : (js : List Judgment) (k : ℕ) (j : Judgment) (c : CatId) → slice_get js k ≡ Some j → j.ctx ≡ Some c → AllByRecursion HasOneContext js
-    → count_by (λ s. s.cat == c.0) (slots j.items) ≡ 1
-form_with_one js k j c here assumes one =
-    let o : HasOneContext j = all_at HasOneContext js k j one here in
-    subst (λ o. MatchOption o (Unit {0}) (λ d. count_by (λ s. s.cat == d.0) (slots j.items) ≡ 1)) assumes o
 
 module _ (sig : Signature) (js : List Judgment) (scope : ReadingScope) (metas : List MetaDecl) (ts : List Token) where
   -- the readings by a judgment without a context are the products of its form
@@ -83,16 +73,16 @@ module _ (sig : Signature) (js : List Judgment) (scope : ReadingScope) (metas : 
               let says : x ≡ closed_form (con k items.0) =
               is ∙ ap (λ m. (a_judgment (closed_judgment m ss), [])) number ∙ ap (λ us. (a_judgment (closed_judgment k us), [])) items.1 in
               (w, con k items.0, refl, says, (items.3, (items.0, form_lengths read.0, ways_of_form nowhere read.0, at, refl, [], items.2)))
-          go (with_context {k = l} {j = other} {id = id} found assumes ctx r) number is place =
+          go (with_context {k = l} {j = other} {id = id} found assumes only ctx r) number is place =
               let two : Some other ≡ Some j = sym found ∙ ap (slice_get js) number ∙ here in
               let which : other ≡ j = cc in
               let never : Some id ≡ None = sym assumes ∙ ap (λ (i : Judgment). i.ctx) which ∙ closed in
               absurd (cc)
 
   -- the readings by a judgment with a context are those of its form
-  pub open_read : (k : ℕ) (j : Judgment) (c : CatId) → slice_get js k ≡ Some j → j.ctx ≡ Some c → (w : Way) (x : WrittenForm)
+  pub open_read : (k : ℕ) (j : Judgment) (c : CatId) → slice_get js k ≡ Some j → j.ctx ≡ Some c → count_by (λ s. s.cat == c.0) (slots j.items) ≡ 1 → (w : Way) (x : WrittenForm)
       → IsOpenForm sig scope metas c k j.items ts w x ↔ IsReadAs sig js scope metas k ts w x
-  open_read k j c here assumes w x = (there, back)
+  open_read k j c here assumes once w x = (there, back)
     where
       there : IsOpenForm sig scope metas c k j.items ts w x → IsReadAs sig js scope metas k ts w x
       there h =
@@ -100,7 +90,7 @@ module _ (sig : Signature) (js : List Judgment) (scope : ReadingScope) (metas : 
           let context = h.6 in
           let place : way k (form_lengths r) (ways_of_form (way_of_context context.0) r) ≡ w =
           ap (λ v. way k (form_lengths r) (ways_of_form v r)) context.1 ∙ sym (h.7).1 in
-          (record { judgment = k; context = h.2.0; args = h.4 }, h.2.1, h.5, refl, (with_context here assumes context.0 r, place))
+          (record { judgment = k; context = h.2.0; args = h.4 }, h.2.1, h.5, refl, (with_context here assumes once context.0 r, place))
 
       back : IsReadAs sig js scope metas k ts w x → IsOpenForm sig scope metas c k j.items ts w x
       back h = go (h.4).0 h.3 h.2 (h.4).1
@@ -112,7 +102,7 @@ module _ (sig : Signature) (js : List Judgment) (scope : ReadingScope) (metas : 
               let which : other ≡ j = cc in
               let never : Some c ≡ None = sym assumes ∙ sym (ap (λ (i : Judgment). i.ctx) which) ∙ none in
               absurd (cc)
-          go (with_context {k = l} {j = other} {id = id} {front = front} {ctx = ctx} {vars = vars} {written = ks} {ss = ss} found takes context r) number is place =
+          go (with_context {k = l} {j = other} {id = id} {front = front} {ctx = ctx} {vars = vars} {written = ks} {ss = ss} found takes only context r) number is place =
               let two : Some other ≡ Some j = sym found ∙ ap (slice_get js) number ∙ here in
               let which : other ≡ j = cc in
               let cats : Some id ≡ Some c = sym takes ∙ ap (λ (i : Judgment). i.ctx) which ∙ assumes in
@@ -123,6 +113,24 @@ module _ (sig : Signature) (js : List Judgment) (scope : ReadingScope) (metas : 
               let there : IsOpenForm sig scope metas id k other.items ts w x =
               (way_of_context context, front, (ctx, ks), vars, ss, says, (context, refl), (r, at)) in
               subst (λ d. IsOpenForm sig scope metas d k j.items ts w x) cat (subst (λ (i : Judgment). IsOpenForm sig scope metas id k i.items ts w x) which there)
+
+  -- a judgment whose form has not one slot of its context is not read
+  pub none_read : (k : ℕ) (j : Judgment) (c : CatId) → slice_get js k ≡ Some j → j.ctx ≡ Some c → (count_by (λ s. s.cat == c.0) (slots j.items) ≡ 1 → ⊥) → (w : Way) (x : WrittenForm)
+      → IsReadAs sig js scope metas k ts w x → ⊥
+  none_read k j c here assumes several w x h = go (h.4).0 h.3
+    where
+      go : {i : JudgmentScheme} {ks : List KnownVariable} → ReadsJudgment sig js scope metas ts i ks → i.judgment ≡ k → ⊥
+      go (without_context {k = l} {j = other} found none r) number =
+          let two : Some other ≡ Some j = sym found ∙ ap (slice_get js) number ∙ here in
+          let which : other ≡ j = cc in
+          let never : Some c ≡ None = sym assumes ∙ sym (ap (λ (i : Judgment). i.ctx) which) ∙ none in
+          absurd (cc)
+      go (with_context {k = l} {j = other} {id = id} found takes only context r) number =
+          let two : Some other ≡ Some j = sym found ∙ ap (slice_get js) number ∙ here in
+          let which : other ≡ j = cc in
+          let cats : Some id ≡ Some c = sym takes ∙ ap (λ (i : Judgment). i.ctx) which ∙ assumes in
+          let cat : id ≡ c = cc in
+          several (subst (λ (d : CatId). count_by (λ s. s.cat == d.0) (slots j.items) ≡ 1) cat (subst (λ (i : Judgment). count_by (λ s. s.cat == id.0) (slots i.items) ≡ 1) which only))
 
   -- by a judgment below that number
   abbrev pub IsReadBelow : ℕ → Way → WrittenForm → Type 0
@@ -141,14 +149,14 @@ module _ (sig : Signature) (js : List Judgment) (scope : ReadingScope) (metas : 
 
   number_within : {i : JudgmentScheme} {ks : List KnownVariable} → ReadsJudgment sig js scope metas ts i ks → i.judgment < length js
   number_within (without_context {k = k} {j = j} found none r) = slice_get_within js k j found
-  number_within (with_context {k = k} {j = j} found assumes context r) = slice_get_within js k j found
+  number_within (with_context {k = k} {j = j} found assumes once context r) = slice_get_within js k j found
 
   pub all_judgments : (n : ℕ) (w : Way) (x : WrittenForm) → length js ≤ n → IsReadBelow n w x ↔ IsReadAsAny sig js scope metas ts w x
   all_judgments n w x h = (λ k. (k.0, k.2), λ k. (k.0, (let lt = number_within (k.1.4).0 in let same = k.1.3 in omega arith), k.1))
 
   place_of : {i : JudgmentScheme} {ks : List KnownVariable} → (r : ReadsJudgment sig js scope metas ts i ks) → (ls : List ℕ) × (ws : Ways) × (way_of_judgment r ≡ way i.judgment ls ws)
   place_of (without_context found none r) = (form_lengths r, ways_of_form nowhere r, refl)
-  place_of (with_context found assumes context r) = (form_lengths r, ways_of_form (way_of_context context) r, refl)
+  place_of (with_context found assumes once context r) = (form_lengths r, ways_of_form (way_of_context context) r, refl)
 
   -- what is read by an earlier judgment stands first
   judgments_apart : (m n : ℕ) → m < n → (k l : Way) (a x : WrittenForm) → IsReadAs sig js scope metas m ts k a → IsReadAs sig js scope metas n ts l x → IsBefore k l

@@ -1,4 +1,3 @@
-pub mod CommonSpellings
 pub mod ContextBeginnings
 pub mod ContextEntries
 pub mod ContextFirsts

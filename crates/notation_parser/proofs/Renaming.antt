@@ -175,10 +175,10 @@ module _ (sig : Signature) (metas others : List MetaDecl) (new : ℕ → ℕ) wh
       judgment_renamed (without_context {k = k} e c r) keeps =
           let q = form_renamed (way 0 [] no_ways) r (λ n d o. keeps n d (inl (inr o))) in
           (without_context e c q.0, ap (λ ls. way k ls (ways_of_form (way 0 [] no_ways) q.0)) q.1 ∙ ap (way k (form_lengths r)) q.2)
-      judgment_renamed {ks = ks} (with_context {k = k} {ctx = ctx} {ss = ss} e c context r) keeps =
+      judgment_renamed {ks = ks} (with_context {k = k} {ctx = ctx} {ss = ss} e c once context r) keeps =
           let f = context_renamed context (λ n d o. keeps n d (in_context n o)) in
           let q = form_renamed (way_of_context f.0) r (λ n d o. keeps n d (inl (inr o))) in (
-            with_context e c f.0 q.0,
+            with_context e c once f.0 q.0,
             ap (λ ls. way k ls (ways_of_form (way_of_context f.0) q.0)) q.1 ∙ ap (way k (form_lengths r)) q.2
                 ∙ ap (λ w. way k (form_lengths r) (ways_of_form w r)) f.1,
           )

@@ -1,13 +1,14 @@
 -- What brackets tell, and the first telling occurrence of a name.
-use Rattle.std.proofs.Common.{◌≡◌, ◌≢◌, ◌↔◌, ℕ, ◌+◌, ◌-◌, ◌<◌, ◌≤◌, Bool, true, false, IsTrue, List, [], ◌∷◌, ◌++◌, length, map, take, drop, get_or, inl, inr, refl, ap, ◌∙◌, sym, subst, arith, append-nil, append_assoc, Option, Some, None, MatchOption}
+use Rattle.std.proofs.Common.{◌≡◌, ◌≢◌, ◌⊎◌, ◌↔◌, ℕ, ◌+◌, ◌-◌, ◌<◌, ◌≤◌, Bool, true, false, IsTrue, List, [], ◌∷◌, ◌++◌, length, map, take, drop, get_or, inl, inr, refl, ap, ◌∙◌, sym, subst, arith, append-nil, append_assoc, Option, Some, None, MatchOption}
 use Rattle.std.specs.Prelude.{slice_index_or}
 use Rattle.std.specs.List.{AllByRecursion}
+use Rattle.std.proofs.lemmas.Bool.{cases_lt}
 use Rattle.std.proofs.lemmas.List.{drop_more, take_rest, take_all, map-append}
 use Rattle.binding_terms.specs.Signature.{Signature}
 use Rattle.binding_terms.specs.declared.grammar.CatId.{CatId}
-use Rattle.rule_schemes.specs.Reading.{Token, word, punctuation, IsVariableWord}
+use Rattle.rule_schemes.specs.Reading.{Token, word, punctuation, IsVariableWord, IsVariableOfFirst}
 use Rattle.rule_schemes.specs.NewNames.{TellsBrackets, at_end, no_bracket, open_bracket, TellsWords, comma, close_bracket, AreDifferentWords, IsTelling, FirstTells}
-use Rattle.notation_parser.specs.Candidates.{IsSpelledOnce, StandsIn, TellsBehind, IsToldAfter}
+use Rattle.notation_parser.specs.Candidates.{StandsIn, TellsBehind, IsToldAfter}
 use Rattle.notation_parser.specs.declared.parameters.Told.{Told}
 
 -- one mark is not another
@@ -25,7 +26,7 @@ inside {sig} {tokens} {ws} {cs} (open_bracket {rest = rest} h) t ts e is = let s
 
 -- words of brackets begin with a variable word
 first_word : {sig : Signature} {tokens : List Token} {ws : List (List ℕ)} {cs : List ℕ} → TellsWords sig tokens ws cs → (t : Token) (ts : List Token) → tokens ≡ t ∷ ts
-    → (w : List ℕ) × (c : ℕ) × (vs : List (List ℕ)) × (ds : List ℕ) × (t ≡ word w) × (ws ≡ w ∷ vs) × (cs ≡ c ∷ ds) × IsVariableWord sig c w × TellsBehind sig ts vs ds
+    → (w : List ℕ) × (c : ℕ) × (vs : List (List ℕ)) × (ds : List ℕ) × (t ≡ word w) × (ws ≡ w ∷ vs) × (cs ≡ c ∷ ds) × IsVariableOfFirst sig c w × TellsBehind sig ts vs ds
 first_word {sig} (comma {w = w} {c = c} {rest = rest} {ws = ws} {cs = cs} v h) t ts e =
     let first : word w ≡ t = cc in
     let behind : punctuation 44 ∷ rest ≡ ts = cc in
@@ -36,52 +37,61 @@ first_word {sig} (close_bracket {w = w} {c = c} {rest = rest} {ws = ws} {cs = cs
     (w, c, ws, cs, sym first, refl, refl, v, subst (λ us. TellsBehind sig us ws cs) behind (inr (refl, h)))
 
 -- a variable word and what stands behind it
-pub a_word : (sig : Signature) (w : List ℕ) (c : ℕ) (ts : List Token) (ws : List (List ℕ)) (cs : List ℕ) → IsVariableWord sig c w → TellsBehind sig ts ws cs → TellsWords sig (word w ∷ ts) (w ∷ ws) (c ∷ cs)
+pub a_word : (sig : Signature) (w : List ℕ) (c : ℕ) (ts : List Token) (ws : List (List ℕ)) (cs : List ℕ) → IsVariableOfFirst sig c w → TellsBehind sig ts ws cs → TellsWords sig (word w ∷ ts) (w ∷ ws) (c ∷ cs)
 a_word sig w c [] ws cs v h = absurd h
 a_word sig w c (u ∷ ts) ws cs v (inl h) = subst (λ u. TellsWords sig (word w ∷ (u ∷ ts)) (w ∷ ws) (c ∷ cs)) (sym h.0) (comma v h.1)
 a_word sig w c (u ∷ ts) ws cs v (inr h) = subst (λ u. TellsWords sig (word w ∷ (u ∷ ts)) (w ∷ ws) (c ∷ cs)) (sym h.0) (close_bracket v h.1)
 
+-- a word is a variable of one category
+one_variable : (sig : Signature) (c d : ℕ) (w : List ℕ) → IsVariableOfFirst sig c w → IsVariableOfFirst sig d w → c ≡ d
+one_variable sig c d w h k = go (cases_lt c d) (cases_lt d c)
+  where
+    go : (c < d) ⊎ (d ≤ c) → (d < c) ⊎ (c ≤ d) → c ≡ d
+    go (inl lt) which = absurd (k.first c lt h.here)
+    go (inr le) (inl lt) = absurd (h.first d lt k.here)
+    go (inr le) (inr ge) = omega (arith, le, ge)
+
 -- brackets tell one thing
 mutual
   pub brackets_once : {sig : Signature} {ts : List Token} {ws : List (List ℕ)} {cs : List ℕ} → TellsBrackets sig ts ws cs → (vs : List (List ℕ)) (ds : List ℕ) → TellsBrackets sig ts vs ds
-      → (ws ≡ vs) × (IsSpelledOnce sig → cs ≡ ds)
+      → (ws ≡ vs) × (cs ≡ ds)
   brackets_once at_end vs ds k = nothing k
     where
-      nothing : {sig : Signature} {vs : List (List ℕ)} {ds : List ℕ} → TellsBrackets sig [] vs ds → ([] ≡ vs) × (IsSpelledOnce sig → [] ≡ ds)
-      nothing at_end = (refl, λ s. refl)
+      nothing : {sig : Signature} {vs : List (List ℕ)} {ds : List ℕ} → TellsBrackets sig [] vs ds → ([] ≡ vs) × ([] ≡ ds)
+      nothing at_end = (refl, refl)
   brackets_once (no_bracket {t = t} {rest = rest} ne) vs ds k = none k t rest refl ne
     where
       none : {sig : Signature} {tokens : List Token} {vs : List (List ℕ)} {ds : List ℕ} → TellsBrackets sig tokens vs ds → (t : Token) (rest : List Token) → tokens ≡ t ∷ rest → t ≢ punctuation 91
-          → ([] ≡ vs) × (IsSpelledOnce sig → [] ≡ ds)
-      none at_end t rest e ne = (refl, λ s. refl)
-      none (no_bracket other) t rest e ne = (refl, λ s. refl)
+          → ([] ≡ vs) × ([] ≡ ds)
+      none at_end t rest e ne = (refl, refl)
+      none (no_bracket other) t rest e ne = (refl, refl)
       none (open_bracket h) t rest e ne = absurd (let first : punctuation 91 ≡ t = cc in ne (sym first))
   brackets_once (open_bracket {rest = rest} h) vs ds k = words_once h vs ds (inside k (punctuation 91) rest refl refl)
 
   pub words_once : {sig : Signature} {ts : List Token} {ws : List (List ℕ)} {cs : List ℕ} → TellsWords sig ts ws cs → (vs : List (List ℕ)) (ds : List ℕ) → TellsWords sig ts vs ds
-      → (ws ≡ vs) × (IsSpelledOnce sig → cs ≡ ds)
+      → (ws ≡ vs) × (cs ≡ ds)
   words_once {sig} (comma {w = w} {c = c} {rest = rest} {ws = ws} {cs = cs} v h) vs ds k =
       let f = first_word k (word w) (punctuation 44 ∷ rest) refl in
-      let more : (ws ≡ f.2) × (IsSpelledOnce sig → cs ≡ f.3) = behind f.2 f.3 (λ b. words_once h f.2 f.3 b) f.8 in
+      let more : (ws ≡ f.2) × (cs ≡ f.3) = behind f.2 f.3 (λ b. words_once h f.2 f.3 b) f.8 in
       let same : w ≡ f.0 = ap (λ (t : Token). t.1) f.4 in (
         ap (λ x. x ∷ ws) same ∙ ap (λ xs. f.0 ∷ xs) more.0 ∙ sym f.5,
-        λ s. ap (λ d. d ∷ cs) (s.variables c f.1 f.0 (subst (IsVariableWord sig c) same v) f.7) ∙ ap (λ xs. f.1 ∷ xs) (more.1 s) ∙ sym f.6,
+        ap (λ d. d ∷ cs) (one_variable sig c f.1 f.0 (subst (IsVariableOfFirst sig c) same v) f.7) ∙ ap (λ xs. f.1 ∷ xs) more.1 ∙ sym f.6,
       )
     where
-      behind : (us : List (List ℕ)) (es : List ℕ) → (TellsWords sig rest us es → (ws ≡ us) × (IsSpelledOnce sig → cs ≡ es)) → TellsBehind sig (punctuation 44 ∷ rest) us es
-          → (ws ≡ us) × (IsSpelledOnce sig → cs ≡ es)
+      behind : (us : List (List ℕ)) (es : List ℕ) → (TellsWords sig rest us es → (ws ≡ us) × (cs ≡ es)) → TellsBehind sig (punctuation 44 ∷ rest) us es
+          → (ws ≡ us) × (cs ≡ es)
       behind us es further (inl b) = further b.1
       behind us es further (inr b) = marks_apart b.0
   words_once {sig} (close_bracket {w = w} {c = c} {rest = rest} {ws = ws} {cs = cs} v h) vs ds k =
       let f = first_word k (word w) (punctuation 93 ∷ rest) refl in
-      let more : (ws ≡ f.2) × (IsSpelledOnce sig → cs ≡ f.3) = behind f.2 f.3 (λ b. brackets_once h f.2 f.3 b) f.8 in
+      let more : (ws ≡ f.2) × (cs ≡ f.3) = behind f.2 f.3 (λ b. brackets_once h f.2 f.3 b) f.8 in
       let same : w ≡ f.0 = ap (λ (t : Token). t.1) f.4 in (
         ap (λ x. x ∷ ws) same ∙ ap (λ xs. f.0 ∷ xs) more.0 ∙ sym f.5,
-        λ s. ap (λ d. d ∷ cs) (s.variables c f.1 f.0 (subst (IsVariableWord sig c) same v) f.7) ∙ ap (λ xs. f.1 ∷ xs) (more.1 s) ∙ sym f.6,
+        ap (λ d. d ∷ cs) (one_variable sig c f.1 f.0 (subst (IsVariableOfFirst sig c) same v) f.7) ∙ ap (λ xs. f.1 ∷ xs) more.1 ∙ sym f.6,
       )
     where
-      behind : (us : List (List ℕ)) (es : List ℕ) → (TellsBrackets sig rest us es → (ws ≡ us) × (IsSpelledOnce sig → cs ≡ es)) → TellsBehind sig (punctuation 93 ∷ rest) us es
-          → (ws ≡ us) × (IsSpelledOnce sig → cs ≡ es)
+      behind : (us : List (List ℕ)) (es : List ℕ) → (TellsBrackets sig rest us es → (ws ≡ us) × (cs ≡ es)) → TellsBehind sig (punctuation 93 ∷ rest) us es
+          → (ws ≡ us) × (cs ≡ es)
       behind us es further (inl b) = marks_apart (sym b.0)
       behind us es further (inr b) = further b.1
 
@@ -101,7 +111,7 @@ told_opened sig t ts before e found h =
     told_same (TellsWords sig ts) (TellsBrackets sig (t ∷ ts)) before (λ ws cs k. opened sig t ts ws cs e k) (λ ws cs k. inside k t ts refl e) found h
 
 -- one word more
-pub told_word : (sig : Signature) (t : Token) (ts : List Token) (before more : Told) (w : List ℕ) (cat : CatId) → t ≡ word w → IsVariableWord sig cat.0 w
+pub told_word : (sig : Signature) (t : Token) (ts : List Token) (before more : Told) (w : List ℕ) (cat : CatId) → t ≡ word w → IsVariableOfFirst sig cat.0 w
     → more.words ≡ before.words ++ w ∷ [] → more.cats ≡ before.cats ++ cat ∷ [] → (found : Option Told) → IsToldAfter (TellsBehind sig ts) more found
     → IsToldAfter (TellsWords sig (t ∷ ts)) before found
 told_word sig t ts before more w cat e v words cats None h =
@@ -145,12 +155,12 @@ tells_later_at f sig name (y ∷ xs) x h none found k =
     tells_later sig name (f y) (map f xs) (subst (λ ys. (cs : List ℕ) → IsTelling sig name (f y ∷ map f ys) cs → ⊥) whole none) found
     (subst (λ ys. MatchOption found ((cs : List ℕ) → FirstTells sig name (map f ys) cs → ⊥) (λ cats. FirstTells sig name (map f ys) (map (λ c. c.0) cats))) whole k)
 
-pub first_tells_once : (sig : Signature) (name : List ℕ) (once : IsSpelledOnce sig) (ts : List Token) (cs ds : List ℕ) → FirstTells sig name ts cs → FirstTells sig name ts ds → cs ≡ ds
-first_tells_once sig name once [] cs ds h k = absurd h
-first_tells_once sig name once (t ∷ ts) cs ds (inl h) (inl k) = (brackets_once h.1.1 k.1.0 ds k.1.1).1 once
-first_tells_once sig name once (t ∷ ts) cs ds (inl h) (inr k) = absurd (k.0 cs h)
-first_tells_once sig name once (t ∷ ts) cs ds (inr h) (inl k) = absurd (h.0 ds k)
-first_tells_once sig name once (t ∷ ts) cs ds (inr h) (inr k) = first_tells_once sig name once ts cs ds h.1 k.1
+pub first_tells_once : (sig : Signature) (name : List ℕ) (ts : List Token) (cs ds : List ℕ) → FirstTells sig name ts cs → FirstTells sig name ts ds → cs ≡ ds
+first_tells_once sig name [] cs ds h k = absurd h
+first_tells_once sig name (t ∷ ts) cs ds (inl h) (inl k) = (brackets_once h.1.1 k.1.0 ds k.1.1).1
+first_tells_once sig name (t ∷ ts) cs ds (inl h) (inr k) = absurd (k.0 cs h)
+first_tells_once sig name (t ∷ ts) cs ds (inr h) (inl k) = absurd (h.0 ds k)
+first_tells_once sig name (t ∷ ts) cs ds (inr h) (inr k) = first_tells_once sig name ts cs ds h.1 k.1
 
 pub first_tells_stands : (sig : Signature) (name : List ℕ) (ts : List Token) (cs : List ℕ) → FirstTells sig name ts cs → StandsIn name ts
 first_tells_stands sig name [] cs h = absurd h

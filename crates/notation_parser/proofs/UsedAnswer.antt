@@ -122,5 +122,5 @@ names_apart_all sig scope ts candidates (inr h) k =
     (all_map (IsNewMeta sig scope.names.metas ts) (λ (d : MetaDecl). AllByRecursion (λ (m : MetaDecl). m.name ≢ d.name) scope.names.metas) (λ d new. new.new) candidates (h.1).each)
 
 -- what is asked for of other names
-pub readable_over : (js : List Judgment) (scope : ReadingScope) (metas others : List MetaDecl) → IsReadableOver js scope metas → NamesApart others → IsReadableOver js scope others
-readable_over js scope metas others h k = record { names = k; one_context = h.one_context; apart = h.apart }
+pub readable_over : (scope : ReadingScope) (metas others : List MetaDecl) → IsReadableOver scope metas → NamesApart others → IsReadableOver scope others
+readable_over scope metas others h k = record { names = k; apart = h.apart }

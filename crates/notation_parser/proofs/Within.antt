@@ -123,7 +123,7 @@ module _ (sig : Signature) (metas : List MetaDecl) where
         → AreWithin metas (λ m. OccursInWanted m written ks)
     wanted_within js (reads_term r) = two_within metas (term_within r) (λ m o. absurd o)
     wanted_within js (reads_judgment (without_context e c r)) = two_within metas (two_within metas (λ m o. absurd o) (form_within r)) (λ m o. absurd o)
-    wanted_within js (reads_judgment (with_context e c context r)) =
+    wanted_within js (reads_judgment (with_context e c once context r)) =
         let k = context_within context in
         two_within metas (two_within metas (λ m o. k m (inl o)) (form_within r)) (λ m o. k m (inr o))
     wanted_within js (reads_context r) = context_within r

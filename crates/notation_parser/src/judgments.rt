@@ -1,7 +1,6 @@
 // The readings of judgments. A judgment without a context is kept as the product of its form with its parts, and so is its number;
 // in one with a context, the slot of its category takes the context.
-ghost use Rattle.std.specs.Prelude.{◌≡◌, ◌==◌, ◌↔◌, ◌<◌, [], IfOk, IsTrue, Some, count_by, map, length};
-ghost use Rattle.std.specs.List.{AllByRecursion};
+ghost use Rattle.std.specs.Prelude.{◌≡◌, ◌==◌, ◌↔◌, ◌<◌, ◌≤◌, [], ◌∷◌, IfOk, IsTrue, Some, count_by, map, length};
 ghost use Rattle.binding_terms.specs.Signature.{Fits, binders, slots};
 ghost use Rattle.scheme_terms.specs.View.{scheme};
 ghost use Rattle.scheme_terms.specs.declared.scheme.Root.TheVariants.{Closed};
@@ -11,7 +10,6 @@ ghost use Rattle.term_reader.specs.Firsts.{listed, AreFirst};
 ghost use Rattle.term_reader.specs.Splitting.{IsSheet, AreKnown, tokens_of};
 ghost use Rattle.term_reader.specs.View.{in_scope};
 ghost use Rattle.notation_parser.specs.Forms.{IsFormOf, closed_form, judged, IsOpenForm, IsReadAs, IsReadAsAny};
-ghost use Rattle.notation_parser.specs.Plain.{HasOneContext};
 ghost use Rattle.notation_parser.specs.Shapes.{IsScopeKnown, KnownsApart};
 ghost use Rattle.notation_parser.specs.View.{outcome, reading_scope};
 
@@ -134,6 +132,34 @@ fn open<'a>(
     Ok(found)
 }
 
+/// How many slots of the category the item is.
+fn slots_of(cat: CatId, item: &Item) -> usize
+    ensures count { result ≡ count_by (λ s. s.cat == cat.0) (slots (item.now ∷ [])) }
+    ensures one { result ≤ 1 }
+{
+    match item {
+        Item::Word { text: _, quoted: _ } => 0,
+        Item::Slot { cat: own, binds: _ } => {
+            if own.0 == cat.0 {
+                return 1;
+            }
+            0
+        }
+        Item::Binder(_) => 0,
+    }
+}
+
+/// Whether exactly one of the items is a slot of the category.
+fn is_once(cat: CatId, items: &[Item]) -> bool
+    ensures { IsTrue result ↔ (count_by (λ s. s.cat == cat.0) (slots items.now) ≡ 1) }
+{
+    let mut count = 0;
+    for item in items {
+        count += slots_of(cat, item);
+    }
+    count == 1
+}
+
 /// The sheet, where slots of that category of contexts may take any tokens.
 fn asking<'a>(sheet: &Sheet<'a>, cat: CatId) -> Sheet<'a>
     ensures { result ≡ record { sig = sheet.now.sig; metas = sheet.now.metas; words = sheet.now.words; tokens = sheet.now.tokens; chart = sheet.now.chart; contexts = Some cat } }
@@ -148,7 +174,7 @@ fn asking<'a>(sheet: &Sheet<'a>, cat: CatId) -> Sheet<'a>
     }
 }
 
-/// The readings by the judgment with that number.
+/// The readings by the judgment with that number: none where it assumes a context and its form has not exactly one slot of it.
 fn form<'a>(
     alloc: Global,
     sheet: &Sheet<'a>,
@@ -161,7 +187,6 @@ fn form<'a>(
     requires scope { IsScopeKnown sheet.now (reading_scope scope.now) }
     requires vars { in_scope vars.now ≡ known_words sheet.now.sig.now 0 (reading_scope scope.now).names.knowns }
     requires apart { KnownsApart (reading_scope scope.now).names.knowns }
-    requires one { AllByRecursion HasOneContext judgments.now }
     requires fits { Fits sheet.now.sig.now }
     requires number { k < length judgments.now }
     ensures { IfOk result
@@ -177,7 +202,12 @@ fn form<'a>(
             let found = closed(alloc, sheet, vars, ProdId(id), items)?;
             as_judgments(alloc, found)
         }
-        Some(cat) => open(alloc, &asking(sheet, cat), scope, cat, id, items),
+        Some(cat) => {
+            if !is_once(cat, items) {
+                return Ok(Firsts::Nothing);
+            }
+            open(alloc, &asking(sheet, cat), scope, cat, id, items)
+        }
     }
 }
 
@@ -193,7 +223,6 @@ pub fn forms<'a>(
     requires scope { IsScopeKnown sheet.now (reading_scope scope.now) }
     requires vars { in_scope vars.now ≡ known_words sheet.now.sig.now 0 (reading_scope scope.now).names.knowns }
     requires apart { KnownsApart (reading_scope scope.now).names.knowns }
-    requires one { AllByRecursion HasOneContext judgments.now }
     requires fits { Fits sheet.now.sig.now }
     ensures { IfOk result
         (λ found. AreFirst IsBefore

@@ -22,11 +22,9 @@ mod renumbering;
 mod sameness;
 mod scope_entries;
 mod shaping;
-mod spelled_once;
 mod spelling;
 mod used;
 
 pub use plain::{is_plain, is_readable};
 pub use reader::read;
 pub use rule_schemes::{Fresh, ReadScope, Reading, Said, Want, Written};
-pub use spelled_once::{can_read, is_spelled_once};

@@ -4,7 +4,7 @@ ghost use Rattle.std.specs.List.{AllByRecursion};
 ghost use Rattle.binding_terms.specs.Numbered.{AnyByRecursion};
 ghost use Rattle.rule_schemes.specs.NewNames.{IsPlainSpelling};
 ghost use Rattle.term_reader.specs.View.{token};
-ghost use Rattle.notation_parser.specs.Candidates.{IsSpelledOnce, IsPlainSpellingOf, AreCandidates, IsNextCandidate};
+ghost use Rattle.notation_parser.specs.Candidates.{IsOfFirst, IsPlainSpellingOf, AreCandidates, IsNextCandidate};
 
 use crate::parameters::{first_telling, is_spelling, text_of};
 use binding_terms::{Cat, CatId, NoMemory, Sig};
@@ -21,10 +21,10 @@ fn is_plain_spelling(cat: &Cat, word: &[u8]) -> bool
     !cat.context && is_spelling(cat.name.bytes(), word)
 }
 
-/// The category of which the word is a spelling.
+/// The category of which the word is a spelling: the first, where it is one of several.
 fn category(sig: &Sig, word: &[u8]) -> Result<Option<CatId>, NoMemory>
     ensures { IfOk result
-        (λ found. MatchOption found ((c : ℕ) → IsPlainSpelling sig.now c word.now → ⊥) (λ c. IsPlainSpelling sig.now c.0 word.now)) }
+        (λ found. MatchOption found ((c : ℕ) → IsPlainSpelling sig.now c word.now → ⊥) (λ c. IsOfFirst sig.now c.0 word.now)) }
 {
     let cats = sig.cats().as_slice();
     for c in 0..cats.len() {
@@ -74,7 +74,6 @@ fn candidate(
     tokens: &[Token<'_>],
     t: &Token<'_>,
 ) -> Result<Option<MetaDecl>, NoMemory>
-    requires { IsSpelledOnce sig.now }
     ensures { IfOk result (IsNextCandidate sig.now metas.now found.now (map token tokens.now) (token t.now)) }
 {
     let name = t.text.as_bytes();
@@ -107,7 +106,6 @@ pub fn candidates(
     metas: &[MetaDecl],
     tokens: &[Token<'_>],
 ) -> Result<Items<MetaDecl>, NoMemory>
-    requires { IsSpelledOnce sig.now }
     ensures { IfOk result (AreCandidates sig.now metas.now (map token tokens.now)) }
 {
     let mut found = Items::new(alloc);

@@ -123,7 +123,7 @@ pub(crate) fn read_over<'a>(
     want: Want,
     tokens: &'a [Token<'a>],
 ) -> Result<Firsts<Outcome>, NoMemory>
-    requires { IsReadableOver judgments.now.items (reading_scope scope.now) metas.now }
+    requires { IsReadableOver (reading_scope scope.now) metas.now }
     ensures { IfOk result
         (λ found. AreFirst IsBefore
         (ReadsWantedAt sig.now judgments.now.items (reading_scope scope.now) metas.now (wanted want) (map token tokens.now))

@@ -1,7 +1,7 @@
 // The parameters of a new name, by its first telling occurrence.
 ghost use Rattle.std.specs.Prelude.{◌≡◌, ◌↔◌, [], ◌∷◌, ◌++◌, ℕ, List, IsTrue, IfOk, MatchOption, map};
 ghost use Rattle.std.specs.List.{AllByRecursion};
-ghost use Rattle.rule_schemes.specs.Reading.{IsEnding, IsSpelling, IsVariableWord, punctuation};
+ghost use Rattle.rule_schemes.specs.Reading.{IsEnding, IsSpelling, IsVariableWord, IsVariableOfFirst, punctuation};
 ghost use Rattle.rule_schemes.specs.NewNames.{TellsBrackets, TellsWords, AreDifferentWords, IsTelling, FirstTells};
 ghost use Rattle.term_reader.specs.View.{token};
 ghost use Rattle.notation_parser.specs.Candidates.{TellsBehind, IsToldAfter};
@@ -64,10 +64,10 @@ fn is_variable_of(cat: &Cat, word: &[u8]) -> bool
     }
 }
 
-/// The category of which the word is a variable.
+/// The category of which the word is a variable: the first, where it is one of several.
 fn variable_category(sig: &Sig, word: &[u8]) -> Result<Option<CatId>, NoMemory>
     ensures { IfOk result
-        (λ found. MatchOption found ((c : ℕ) → IsVariableWord sig.now c word.now → ⊥) (λ c. IsVariableWord sig.now c.0 word.now)) }
+        (λ found. MatchOption found ((c : ℕ) → IsVariableWord sig.now c word.now → ⊥) (λ c. IsVariableOfFirst sig.now c.0 word.now)) }
 {
     let cats = sig.cats().as_slice();
     for c in 0..cats.len() {

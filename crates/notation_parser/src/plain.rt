@@ -1,17 +1,15 @@
-// The test of what is read so far.
-ghost use Rattle.std.specs.Prelude.{◌≡◌, ◌≢◌, ◌↔◌, ◌==◌, ◌≤◌, ◌∷◌, IsTrue, None, [], map, count_by};
+// What is asked of the scope of a form, and whether nothing binds in forms.
+ghost use Rattle.std.specs.Prelude.{◌≡◌, ◌≢◌, ◌↔◌, IsTrue, None, [], map};
 ghost use Rattle.scheme_terms.specs.View.{known_variable};
 ghost use Rattle.std.specs.List.{AllByRecursion};
 ghost use Rattle.term_reader.specs.Names.{NamesApart};
-ghost use Rattle.binding_terms.specs.Signature.{Signature, slots};
-ghost use Rattle.notation_parser.specs.Plain.{IsPlain, IsReadable, IsNoContext, HasOneContext};
+ghost use Rattle.notation_parser.specs.Plain.{IsPlain, IsReadable, IsNoContext};
 ghost use Rattle.rule_schemes.specs.Reading.{not_fresh};
-ghost use Rattle.notation_parser.specs.Candidates.{IsSpelledOnce};
 ghost use Rattle.term_reader.specs.View.{scope_words};
 ghost use Rattle.notation_parser.specs.View.{wanted, reading_scope, freshness_of};
 
 use crate::known_scope::{knowns_apart, knowns_stand};
-use binding_terms::{Cat, CatId, Item, Sig, Text};
+use binding_terms::{Cat, CatId, Sig, Text};
 use rule_schemes::{Fresh, Judgment, ReadScope, Want};
 use scheme_terms::{KnownDecl, MetaDecl};
 
@@ -108,61 +106,12 @@ fn no_words(vars: &[(Text, CatId)]) -> bool
     vars.len() == 0
 }
 
-/// How many slots of the category the item is.
-fn slots_of(cat: CatId, item: &Item) -> usize
-    ensures count { result ≡ count_by (λ s. s.cat == cat.0) (slots (item.now ∷ [])) }
-    ensures one { result ≤ 1 }
-{
-    match item {
-        Item::Word { text: _, quoted: _ } => 0,
-        Item::Slot { cat: own, binds: _ } => {
-            if own.0 == cat.0 {
-                return 1;
-            }
-            0
-        }
-        Item::Binder(_) => 0,
-    }
-}
-
-fn is_once(cat: CatId, items: &[Item]) -> bool
-    ensures { IsTrue result ↔ (count_by (λ s. s.cat == cat.0) (slots items.now) ≡ 1) }
-{
-    let mut count = 0;
-    for item in items {
-        count += slots_of(cat, item);
-    }
-    count == 1
-}
-
-fn has_one_context(judgment: &Judgment) -> bool
-    ensures { IsTrue result ↔ HasOneContext judgment.now }
-{
-    match judgment.ctx {
-        None => true,
-        Some(cat) => is_once(cat, judgment.items.as_slice()),
-    }
-}
-
-fn have_one_context(judgments: &[Judgment]) -> bool
-    ensures { IsTrue result ↔ AllByRecursion HasOneContext judgments.now }
-{
-    for judgment in judgments {
-        if !has_one_context(judgment) {
-            return false;
-        }
-    }
-    true
-}
-
-/// Whether forms are read here, over a grammar in which no word is a spelling of two categories or variables: the names of the scope
-/// are told apart, its known variables are written over its metavariables, and a judgment that assumes a context has one slot of it.
-pub fn is_readable(judgments: &Vec<Judgment>, scope: &ReadScope) -> bool
-    ensures { (sig : Signature) → ((reading_scope scope.now).fresh ≢ not_fresh → IsSpelledOnce sig)
-        → IsTrue result ↔ IsReadable sig judgments.now.items (reading_scope scope.now) }
+/// Whether forms can be read in this scope: its names are told apart, and where new ones may stand beside them, its known variables
+/// are written over its metavariables.
+pub fn is_readable(scope: &ReadScope) -> bool
+    ensures { IsTrue result ↔ IsReadable (reading_scope scope.now) }
 {
     names_apart(scope.scope.metas.as_slice())
-        && have_one_context(judgments.as_slice())
         && knowns_apart(scope.scope.knowns.as_slice())
         && knowns_stand(scope)
 }

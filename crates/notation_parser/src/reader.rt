@@ -1,8 +1,6 @@
-ghost use Rattle.std.specs.Prelude.{◌≡◌, ◌≢◌, ◌++◌, IfOk, OnOk, map};
-ghost use Rattle.rule_schemes.specs.Reading.{not_fresh};
+ghost use Rattle.std.specs.Prelude.{◌≡◌, ◌++◌, IfOk, OnOk, map};
 ghost use Rattle.term_reader.specs.View.{token};
 ghost use Rattle.notation_parser.specs.Answer.{IsAnswer};
-ghost use Rattle.notation_parser.specs.Candidates.{IsSpelledOnce};
 ghost use Rattle.notation_parser.specs.Plain.{IsReadable};
 ghost use Rattle.notation_parser.specs.Used.{MayBeNew};
 ghost use Rattle.notation_parser.specs.View.{reading_scope, wanted};
@@ -27,7 +25,6 @@ fn may_be_new(
     scope: &ReadScope,
     tokens: &[Token<'_>],
 ) -> Result<Items<MetaDecl>, NoMemory>
-    requires { (reading_scope scope.now).fresh ≢ not_fresh → IsSpelledOnce sig.now }
     ensures { IfOk result (MayBeNew sig.now (reading_scope scope.now) (map token tokens.now)) }
 {
     let metas = scope.scope.metas.as_slice();
@@ -67,7 +64,7 @@ pub fn read(
     want: Want,
     tokens: &[Token<'_>],
 ) -> Result<Reading, NoMemory>
-    requires { IsReadable sig.now judgments.now.items (reading_scope scope.now) }
+    requires { IsReadable (reading_scope scope.now) }
     ensures { IfOk result
         (λ r. IsAnswer sig.now judgments.now.items (reading_scope scope.now) (wanted want) (map token tokens.now) r) }
 {

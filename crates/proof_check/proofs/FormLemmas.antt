@@ -38,7 +38,7 @@ same_tokens (t ∷ ts) =
 module _ (sig : Signature) (js : List Judgment) (scope : ReadingScope) (no_context : AllByRecursion (λ j. j.ctx ≡ None) js) where
   nothing_known : (ms : List MetaDecl) (ts : List Token) (j : JudgmentScheme) (ks : List KnownVariable) → ReadsJudgment sig js scope ms ts j ks → ks ≡ []
   nothing_known ms ts j ks (without_context here none form) = refl
-  nothing_known ms ts j ks (with_context {k = k} {j = form} {id = id} here some context rest) =
+  nothing_known ms ts j ks (with_context {k = k} {j = form} {id = id} here some once context rest) =
       absurd (let none = all_at (λ j. j.ctx ≡ None) js k form no_context here in cc)
 
   -- what reads as a judgment is one, and writes no known variable

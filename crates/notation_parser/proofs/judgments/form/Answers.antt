@@ -1,4 +1,4 @@
-use Rattle.std.proofs.Common.{◌≡◌, Some, slice_get, refl, sym, subst}
+use Rattle.std.proofs.Common.{◌≡◌, Some, slice_get, refl, sym, subst, ◌∙◌, true≢false}
 use Rattle.std.proofs.lemmas.Option.{slice_get_read}
 use Rattle.rule_schemes.specs.Said.{IsBefore}
 use Rattle.term_reader.specs.Firsts.{AreFirst}
@@ -8,18 +8,14 @@ use Rattle.term_reader.proofs.Finding.{AreFirst-same}
 use Rattle.term_reader.proofs.SplitLemmas.{if_ok}
 use Rattle.notation_parser.specs.Forms.{IsReadAs}
 use Rattle.notation_parser.specs.View.{reading_scope}
-use Rattle.notation_parser.proofs.Judging.{form_with_one, closed_read, open_read}
+use Rattle.notation_parser.proofs.Judging.{closed_read, open_read, none_read}
 use Rattle.notation_parser.proofs.judgments.form.Goals as goal
 
 pub closed-requires-clause-vars : goal.closed-requires-clause-vars
 closed-requires-clause-vars c = subst (AreKnown c.args.sheet.now) (sym c.requires.vars) c.requires.scope.1
 
 pub open-requires-clause-one : goal.open-requires-clause-one
-open-requires-clause-one c =
-    let js = c.args.judgments.now in
-    let j = c.index-judgments-k.result in
-    let here : slice_get js c.args.k ≡ Some j = slice_get_read js _ c.args.k j refl c.requires.number c.index-judgments-k.is in
-    rw c.as_slice-items.ensures (form_with_one js c.args.k j c.in-Some.cat here c.in-Some.is c.requires.one)
+open-requires-clause-one c = c.is_once.ensures.0 c.if-not-is_once.false
 
 pub returns-in_ok-found-in-None : goal.returns-in_ok-found-in-None
 returns-in_ok-found-in-None c =
@@ -44,5 +40,16 @@ returns-in-Some c =
     let j = c.index-judgments-k.result in
     let here : slice_get js k ≡ Some j = slice_get_read js _ k j refl c.requires.number c.index-judgments-k.is in
     if_ok c.open.result _ _ (λ found f. AreFirst-same IsBefore _ (IsReadAs sheet.sig.now js scope sheet.metas.now k ts) _
-    (λ w x. open_read sheet.sig.now js scope sheet.metas.now ts k j c.in-Some.cat here c.in-Some.is w x) f)
+    (λ w x. open_read sheet.sig.now js scope sheet.metas.now ts k j c.in-Some.cat here c.in-Some.is (rw c.as_slice-items.ensures at c.is_once.ensures.0 c.if-not-is_once.false) w x) f)
     (rw (c.asking.ensures, c.in_ok-id.ensures, c.as_slice-items.ensures) at c.open.ensures)
+
+pub returns-then-not-is_once-in-Some : goal.returns-then-not-is_once-in-Some
+returns-then-not-is_once-in-Some c =
+    let sheet = c.args.sheet.now in
+    let js = c.args.judgments.now in
+    let scope = reading_scope c.args.scope.now in
+    let k = c.args.k in
+    let j = c.index-judgments-k.result in
+    let here : slice_get js k ≡ Some j = slice_get_read js _ k j refl c.requires.number c.index-judgments-k.is in
+    none_read sheet.sig.now js scope sheet.metas.now (tokens_of sheet) k j c.in-Some.cat here c.in-Some.is
+    (λ once. true≢false (sym (c.is_once.ensures.1 (rw c.as_slice-items.ensures once)) ∙ c.if-not-is_once.true))

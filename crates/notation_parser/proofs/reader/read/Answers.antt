@@ -15,7 +15,7 @@ read_over-requires c =
     let all : c.as_slice-2.result.now ≡ scope.names.metas ++ c.in_ok-new.new =
     c.as_slice-2.ensures ∙ c.in_ok-metas.ensures ∙ ap (λ xs. xs ++ c.as_slice.result.now) c.as_slice-own.ensures ∙ ap (λ ys. scope.names.metas ++ ys) c.as_slice.ensures in
     rw all
-    (readable_over c.args.judgments.now.items scope scope.names.metas (scope.names.metas ++ c.in_ok-new.new) c.requires.over
+    (readable_over scope scope.names.metas (scope.names.metas ++ c.in_ok-new.new) c.requires.over
     (names_apart_all c.args.sig.now scope (map token c.args.tokens.now) c.in_ok-new.new c.in_ok-new.ensures c.requires.over.names))
 
 pub returns : goal.returns

@@ -4,7 +4,7 @@ use Rattle.std.proofs.lemmas.Bool.{eqb-true, eq-eqb}
 use Rattle.std.proofs.lemmas.List.{take_all}
 use Rattle.binding_terms.specs.Signature.{slots}
 use Rattle.notation_parser.proofs.Counts.{count_more}
-use Rattle.notation_parser.proofs.plain.is_once.Goals as goal
+use Rattle.notation_parser.proofs.judgments.is_once.Goals as goal
 
 pub loop-item-preserved : goal.loop-item-preserved
 loop-item-preserved c =
