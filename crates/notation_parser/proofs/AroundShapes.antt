@@ -9,8 +9,8 @@ use Rattle.scheme_terms.specs.declared.scheme.MetaDecl.{MetaDecl}
 use Rattle.rule_schemes.specs.Reading.{Token, Variable, bare, ReadingScope}
 use Rattle.rule_schemes.specs.Rules.{JudgmentScheme}
 use Rattle.rule_schemes.specs.Said.{a_judgment, Way, way, Ways, no_ways, then_way, IsBefore, AreBefore}
-use Rattle.reading_places.specs.First.{ReadPiecesAs}
-use Rattle.reading_places.proofs.Comparing.{places_compare}
+use Rattle.term_reader.specs.FirstPlace.{ReadPiecesAs}
+use Rattle.term_reader.proofs.Comparing.{places_compare}
 use Rattle.term_reader.specs.Firsts.{AreFirst, IsLeast, paired}
 use Rattle.term_reader.specs.Names.{NamesApart}
 use Rattle.term_reader.specs.Splitting.{SlotRange, lengths, ReadsPieces, IsMapped}

@@ -12,7 +12,7 @@ use Rattle.rule_schemes.specs.Said.{Way, way, Ways, no_ways, then_way, IsBefore,
 use Rattle.term_reader.specs.Firsts.{IsLeast, AreFirst, paired}
 use Rattle.term_reader.specs.Splitting.{SlotRange, lengths, ReadsPieces, IsMapped}
 use Rattle.term_reader.proofs.Finding.{AreFirst-same, AreFirst-map, IsPair, AreFirst-paired}
-use Rattle.reading_places.specs.First.{IsFirstPlace, ReadPiecesAs}
+use Rattle.term_reader.specs.FirstPlace.{IsFirstPlace, ReadPiecesAs}
 use Rattle.notation_parser.specs.Shapes.{ContextShape, EntryShape, named, empty, new_entry, scope_entry, entered, shape_variables, WrittenContext, with_entry, new_context, whole_with, ReadsInShape}
 
 -- lists with one more at the end are the same only with the same end

@@ -18,7 +18,7 @@ use Rattle.term_reader.specs.Cases.{IsMade}
 use Rattle.term_reader.specs.Firsts.{IsLeast}
 use Rattle.term_reader.specs.Ordered.{ReadsTermAt}
 use Rattle.term_reader.specs.Splitting.{SlotRange, lengths, ReadsPieces}
-use Rattle.reading_places.specs.First.{ReadPiecesAs}
+use Rattle.term_reader.specs.FirstPlace.{ReadPiecesAs}
 use Rattle.notation_parser.specs.Ordered.{WrittenForm}
 use Rattle.notation_parser.specs.Shapes.{ReadsContextAt, ContextShape, WrittenContext, shape_variables, ReadsInShape, written_context}
 use Rattle.notation_parser.specs.declared.around.Around.{Around}

@@ -2,7 +2,7 @@
 -- Held against `IsBefore` of rule_schemes/specs/Said.antt.
 use Rattle.std.specs.Prelude.{◌≡◌, ◌≢◌, ◌⊎◌, List, [], ◌∷◌, Option, Some, None}
 use Rattle.rule_schemes.specs.Said.{Ways}
-use Rattle.reading_places.specs.View.{places}
+use Rattle.term_reader.specs.PlaceView.{places}
 use Rattle.notation_parser.specs.Ordered.{WrittenForm}
 use Rattle.notation_parser.specs.View.{outcome}
 use Rattle.notation_parser.specs.declared.merging.Placed.{Placed}

@@ -16,12 +16,11 @@ use crate::copies::{context_again, knowns_again};
 use crate::merging::Placed;
 use crate::outcomes::Outcome;
 use binding_terms::NoMemory;
-use reading_places::places_of;
 use rule_schemes::{JScheme, JudgId, Written};
 use scheme_terms::{SArg, Scheme};
 use sqlite_items::Items;
 use std::alloc::Global;
-use term_reader::{Firsts, Piece, Sheet, Var, bodies};
+use term_reader::{Firsts, Piece, Sheet, Var, bodies, places_of};
 
 /// A context with the terms that stand around it.
 #[derive(Drop)]

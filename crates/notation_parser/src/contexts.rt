@@ -13,12 +13,11 @@ use crate::copies::{known_again, knowns_again};
 use crate::knowns::known_variables;
 use crate::shaping::{Entered, KnownEntry, Shape, Start};
 use binding_terms::{CatId, NoMemory, ProdId, Text};
-use reading_places::places_of;
 use rule_schemes::ReadScope;
 use scheme_terms::{KnownDecl, Root, SArg, SCtx, SEntry, copy_entry};
 use sqlite_items::{Items, at};
 use std::alloc::Global;
-use term_reader::{Firsts, Sheet, Var, bodies, parts, scope_variables};
+use term_reader::{Firsts, Sheet, Var, bodies, parts, places_of, scope_variables};
 
 /// A context, and the known variable that it writes.
 #[derive(Drop)]

@@ -1,15 +1,14 @@
 // The readings over contexts of several shapes, put together in the reading order: what is read in front of the context counts first.
 ghost use Rattle.std.specs.Prelude.{◌≡◌, ◌↔◌, IsTrue, Some, ◌∷◌, map};
 ghost use Rattle.rule_schemes.specs.Said.{AreBefore};
-ghost use Rattle.reading_places.specs.View.{places};
+ghost use Rattle.term_reader.specs.PlaceView.{places};
 ghost use Rattle.term_reader.specs.Firsts.{listed, IsFull};
 ghost use Rattle.notation_parser.specs.Fronts.{IsEarlier, IsOther, then_next, AreTwoMerged, AreMerged, placed, next_placed};
 ghost use Rattle.notation_parser.specs.View.{outcome};
 
 use crate::outcomes::{Outcome, same_outcome};
-use reading_places::{Place, are_before};
 use sqlite_items::Items;
-use term_reader::Firsts;
+use term_reader::{Firsts, Place, are_before};
 
 /// A reading of a judgment over a context, with the places of the slots in front of the context.
 #[derive(Drop)]

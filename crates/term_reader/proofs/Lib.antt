@@ -11,3 +11,12 @@ pub mod ArgumentLemmas
 pub mod Usable
 pub mod VariableLemmas
 pub mod TermEnds
+pub mod Alone
+pub mod Before
+pub mod Bound
+pub mod Comparing
+pub mod FirstPlaces
+pub mod Groups
+pub mod Heads
+pub mod InSplits
+pub mod Slots

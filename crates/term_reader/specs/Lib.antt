@@ -6,3 +6,6 @@ pub mod Names
 pub mod Ordered
 pub mod Splitting
 pub mod View
+pub mod PlaceCases
+pub mod FirstPlace
+pub mod PlaceView

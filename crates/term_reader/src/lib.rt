@@ -1,18 +1,24 @@
-//! Reads the terms of a written form in every way that a user's grammar allows.
+//! Reads the terms of a written form in every way that a user's grammar allows, and tells where in the reading order a term is read.
 #![tactic(auto)]
 
 mod brackets;
 mod chart;
+mod counting;
 mod firsts;
+mod places;
+mod placing;
 mod reading;
 mod sheet;
 mod splitting;
+mod variable_place;
 mod variables;
 mod words;
 
 pub use brackets::bracket_splits;
 pub use chart::Chart;
 pub use firsts::{Firsts, extended, is_full, joined};
+pub use places::{Place, are_before, are_same, is_before};
+pub use placing::{place_of, places_of};
 pub use reading::{Head, bodies, in_splits, number, parts, terms};
 pub use sheet::Sheet;
 pub use splitting::{Piece, Split, splits};

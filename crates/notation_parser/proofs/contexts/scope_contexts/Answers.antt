@@ -7,8 +7,8 @@ use Rattle.rule_schemes.specs.Reading.{known_words}
 use Rattle.rule_schemes.specs.Said.{IsBefore, AreBefore}
 use Rattle.term_reader.specs.Firsts.{AreFirst}
 use Rattle.term_reader.specs.Splitting.{tokens_of, slot_range}
-use Rattle.reading_places.specs.First.{IsFirstPlace, ReadPiecesAs}
-use Rattle.reading_places.specs.View.{places}
+use Rattle.term_reader.specs.FirstPlace.{IsFirstPlace, ReadPiecesAs}
+use Rattle.term_reader.specs.PlaceView.{places}
 use Rattle.notation_parser.specs.Shapes.{WrittenContext, ReadsInShape, scope_entry}
 use Rattle.notation_parser.specs.View.{reading_scope}
 use Rattle.notation_parser.proofs.ContextFirsts.{scope_found}

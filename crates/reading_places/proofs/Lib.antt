@@ -1,9 +1,0 @@
-pub mod Alone
-pub mod Before
-pub mod Bound
-pub mod Comparing
-pub mod FirstPlaces
-pub mod Groups
-pub mod Heads
-pub mod InSplits
-pub mod Slots
