@@ -89,8 +89,8 @@ same_cats (c ∷ cs) (d ∷ ds) e =
     ap (λ (n : ℕ). record { 0 = n } ∷ cs) first ∙ ap (λ (xs : List CatId). d ∷ xs) (same_cats cs ds rest)
 
 -- of two categories, each the first that is so, neither stands before the other
-pub one_first : {P : ℕ → Type 0} (c d : ℕ) → P c → P d → ((e : ℕ) → e < c → P e → ⊥) → ((e : ℕ) → e < d → P e → ⊥) → c ≡ d
-one_first c d here there before earlier = go (cases_lt c d) (cases_lt d c)
+one_first : (P : ℕ → Type 0) (c d : ℕ) → P c → P d → ((e : ℕ) → e < c → P e → ⊥) → ((e : ℕ) → e < d → P e → ⊥) → c ≡ d
+one_first P c d here there before earlier = go (cases_lt c d) (cases_lt d c)
   where
     go : (c < d) ⊎ (d ≤ c) → (d < c) ⊎ (c ≤ d) → c ≡ d
     go (inl lt) which = absurd (earlier c lt here)
@@ -101,7 +101,7 @@ module _ (sig : Signature) (metas : List MetaDecl) (tokens : List Token) where
   -- a name is that of one new metavariable
   pub one_new_meta : (a b : MetaDecl) → IsNewMeta sig metas tokens a → IsNewMeta sig metas tokens b → a.name ≡ b.name → a ≡ b
   one_new_meta a b h k e =
-      let number : a.cat.0 ≡ b.cat.0 = one_first {P = λ c. IsPlainSpelling sig c b.name} a.cat.0 b.cat.0 (subst (IsPlainSpelling sig a.cat.0) e h.cat) k.cat
+      let number : a.cat.0 ≡ b.cat.0 = one_first (λ c. IsPlainSpelling sig c b.name) a.cat.0 b.cat.0 (subst (IsPlainSpelling sig a.cat.0) e h.cat) k.cat
       (subst (λ w. (earlier : ℕ) → earlier < a.cat.0 → IsPlainSpelling sig earlier w → ⊥) e h.first) k.first in
       let params : a.params ≡ b.params =
       same_cats a.params b.params
