@@ -62,7 +62,7 @@ Either one other found token detail = one found token detail ⊎ other found tok
 
 -- a category as the portions lend it
 abbrev pub written_view : Written → WrittenCategory
-written_view written = record { name = token_view written.name.now; forms = map plain_form (map (λ form. form.now) written.forms.now) }
+written_view written = record { name = token_view written.name.now; mark = token_view written.mark.now; forms = map plain_form (map (λ form. form.now) written.forms.now) }
 
 -- the portions of the file
 abbrev pub portions_of : Lists → List PlainPortion

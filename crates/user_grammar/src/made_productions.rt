@@ -112,9 +112,9 @@ fn made_category(
     name: &Token<'_>,
     forms: &[Form<'_>],
 ) -> Result<Cat, NoMemory>
-    ensures { IfOk result (λ cat. IsMadeCategory (map (λ name. name.now) names.now) (names_in listed.now)
+    ensures { IfOk result (λ cat. (mark : PlainToken) → IsMadeCategory (map (λ name. name.now) names.now) (names_in listed.now)
         (map (λ text. text.now) assumed.now)
-        (record { name = token_view name.now; forms = map plain_form (map (λ form. form.now) forms.now) }) cat) }
+        (record { name = token_view name.now; mark = mark; forms = map plain_form (map (λ form. form.now) forms.now) }) cat) }
 {
     Ok(Cat {
         name: copied(alloc, name.text)?,
@@ -136,7 +136,11 @@ fn add_made_category(
         (map (λ text. text.now) assumed.now)) (category_in (plain_portion (portion_view portion.now))) own) }
 {
     match portion {
-        Portion::Category { name, productions } => {
+        Portion::Category {
+            name,
+            productions,
+            ..
+        } => {
             let forms = productions.as_slice();
             cats.push(made_category(alloc, names, listed, assumed, name, forms)?)?;
             Ok(())

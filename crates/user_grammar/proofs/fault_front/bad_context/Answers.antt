@@ -1,4 +1,4 @@
-use Rattle.std.proofs.Common.{◌↔◌, IsTrue, map, subst}
+use Rattle.std.proofs.Common.{◌↔◌, IsTrue, map, refl, subst}
 use Rattle.user_grammar.specs.Names.{IsAmong}
 use Rattle.user_grammar.specs.Finding.{portions_of, written_view}
 use Rattle.user_grammar.proofs.FaultLeast.{refused}
@@ -17,7 +17,7 @@ returns-then-keeps c = rule_kept (portions_of c.args.names.now.lists) (written_v
 
 pub returns : goal.returns
 returns c =
-    rule_broken (portions_of c.args.names.now.lists) (written_view c.args.written.now) c.at_token.result c.at_token.ensures
+    rule_broken (portions_of c.args.names.now.lists) (written_view c.args.written.now) _ refl refl refl
     (subst (λ ts. IsAmong ts (written_view c.args.written.now).name.text) c.requires.contexts
     (subst (IsAmong (map (λ text. text.now) c.args.contexts.now)) c.as_bytes.ensures.value (c.is_among.ensures.0 c.if-not-is_among.false)))
     (refused c.in_ok-keeps.keeps c.in_ok-keeps.ensures c.if-keeps.false)
