@@ -19,11 +19,12 @@ pub struct Written<'a> {
     pub forms: &'a [Form<'a>],
 }
 
-/// The portions of a file, its categories, and the terminals that it lists.
+/// The portions of a file, its categories and their names, and the terminals that it lists.
 #[derive(Clone, Copy)]
 pub struct Lists<'a> {
     pub portions: &'a [Portion<'a>],
     pub categories: &'a [Written<'a>],
+    pub names: &'a NameIndex<'a>,
     pub listed: &'a NameIndex<'a>,
 }
 

@@ -11,7 +11,7 @@ use Rattle.user_grammar.proofs.made_productions.add_made_category.Goals as goal
 
 pub returns-in_ok-push-in-Category : goal.returns-in_ok-push-in-Category
 returns-in_ok-push-in-Category c =
-    let made = IsMadeCategory (map (λ name. name.now) c.args.names.now) (names_in c.args.listed.now) (map (λ text. text.now) c.args.assumed.now) in
+    let made = IsMadeCategory (map (λ name. name.now) c.args.names.now) (names_in c.args.listed.now) (names_in c.args.assumed.now) in
     let mark = token_view c.in-Category.mark.now in
     subst (λ p. (own : List Cat) × (c.push.new.self.items ≡ c.args.cats.now.items ++ own) × AllZip made (category_in (plain_portion (portion_view p))) own) (sym c.in-Category.is) (
       c.in_ok-made_category-in-Category.field-0 ∷ [],
