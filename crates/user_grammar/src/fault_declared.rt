@@ -200,7 +200,7 @@ fn has_common(seen: &Seen<'_>, before: &[Declaration<'_>], declaration: &Declara
 /// The first word with a common spelling, where one more word is declared.
 fn common_found<'a>(
     seen: &Seen<'_>,
-    before: &[Declaration<'_>],
+    before: &[Declaration<'a>],
     declaration: &Declaration<'a>,
     found: Option<Found<'a>>,
 ) -> Option<Found<'a>>
