@@ -177,6 +177,14 @@ static FAULTY: [(&str, &str); 44] = [
         "line 3: BadContext: G",
     ),
     (
+        "syntax\nG\n::= G, x\nt ::= x\njudgment j: G assumes G",
+        "line 3: BadContext: G",
+    ),
+    (
+        "syntax\nG\n::= | G, x\nt ::= x\njudgment j: G assumes G",
+        "line 2: EmptyProduction: G",
+    ),
+    (
         "terminals fn\nsyntax\nt ::= fn y => t[y] y | x",
         "line 3: UnknownWord: y",
     ),

@@ -1,5 +1,5 @@
 -- No field of a portion is its first token for want of another.
-use Rattle.std.proofs.Common.{◌≡◌, ◌≢◌, inl, inr, ℕ, zero, suc, ◌+◌, Bool, true, false, cond, ◌||◌, IsTrue, List, [], ◌∷◌, take, Option, Some, None, refl, sym, ◌∙◌, ap, subst, add-one}
+use Rattle.std.proofs.Common.{◌≡◌, ◌≢◌, inl, inr, ℕ, zero, suc, ◌+◌, Bool, true, false, cond, ◌||◌, IsTrue, List, [], ◌∷◌, take, drop, Option, Some, None, refl, sym, ◌∙◌, ap, subst, add-one}
 use Rattle.std.specs.List.{AllByRecursion}
 use Rattle.proof_lexer.specs.declared.token.Token.{Token}
 use Rattle.outline_reader.specs.declared.machine.Awaited.{Awaited}
@@ -8,10 +8,10 @@ use Rattle.outline_reader.specs.declared.symbols.Role.{Role}
 use Rattle.outline_reader.specs.declared.symbols.Role.TheVariants as role
 use Rattle.outline_reader.specs.Derives as d
 use Rattle.outline_reader.specs.Derives.{Mark, Reaches, seen_after}
-use Rattle.outline_reader.specs.Views.{by_rule, by_theorem, by_cases, by_induction, by_contradiction, by_weakening, by_exchange, by_substitution, judgment, rule, theorem, step, inversion, case_rule}
-use Rattle.outline_reader.specs.Fields.{same_role, name_or, form_of, named, all_named, forms, premises, outputs, inputs, args, named_forms, is_arg, subject, head_conclusion}
-use Rattle.outline_reader.specs.Portions.{begins, names_category, portion_length, is_call, call, just_by, portion}
-use Rattle.outline_reader.specs.Filled.{Need, a_name, a_second_name, a_kind_word, an_argument, a_conclusion, is_kind_word, meets, met_in, needs, within_portion, AreFilled}
+use Rattle.outline_reader.specs.Views.{category, by_rule, by_theorem, by_cases, by_induction, by_contradiction, by_weakening, by_exchange, by_substitution, judgment, rule, theorem, step, inversion, case_rule}
+use Rattle.outline_reader.specs.Fields.{same_role, name_or, form_of, named, all_named, forms, premises, outputs, inputs, args, named_forms, is_arg, subject, head_conclusion, productions}
+use Rattle.outline_reader.specs.Portions.{begins, names_category, portion_length, is_call, call, just_by, second_or, portion}
+use Rattle.outline_reader.specs.Filled.{Need, a_name, a_second_name, a_kind_word, an_argument, a_conclusion, a_new_definition, is_kind_word, meets, met_in, needs, within_portion, AreFilled}
 use Rattle.outline_reader.specs.Found.{begun_by, AreFound}
 use Rattle.outline_reader.specs.Laws.{FieldsAreFound}
 use Rattle.outline_reader.proofs.WritingLemmas.{marked_roles, writes}
@@ -121,6 +121,10 @@ or_second : (a b : Bool) → (a || b) ≡ false → b ≡ false
 or_second true b h = absurd (let no : true ≡ false = h in cc)
 or_second false b h = h
 
+begun_later : (a b : Bool) → IsTrue (a || b) → a ≡ false → IsTrue b
+begun_later true b h none = absurd (let no : true ≡ false = none in cc)
+begun_later false b h none = h
+
 within_none : (one : Role) (roles : List Role) → (begins one || names_category roles) ≡ true → within_portion (one ∷ roles) ≡ []
 within_none one roles ends = λ i. take (cond (ends i) 0 (portion_length roles + 1)) (one ∷ roles)
 
@@ -190,48 +194,59 @@ kind_absent (now ∷ roles) (token ∷ tokens) h one =
     no_kind_word role.KindWord h = h
     no_kind_word _ h = refl
 
+-- two tokens have a second one
+second_found : (first next : Role) (roles : List Role) (tokens : List Token) → Paired (first ∷ next ∷ roles) tokens → (one other : Token) → second_or one tokens ≡ second_or other tokens
+unfolding Paired
+second_found first next roles [] paired one other = absurd paired
+second_found first next roles (token ∷ []) paired one other = absurd paired
+second_found first next roles (token ∷ second ∷ tokens) paired one other = refl
+
 -- a portion depends on its first token only where it has that token
 portion_found : (first : Role) (roles : List Role) (tokens : List Token) → FilledList (first ∷ roles) → Paired (first ∷ roles) tokens →
-    (first ≡ role.TheoremWord → met_in a_kind_word (first ∷ roles) ≡ false) →
+    (first ≡ role.TheoremWord → met_in a_kind_word (first ∷ roles) ≡ false) → (begins first ≡ false → IsTrue (met_in a_new_definition roles)) →
     (one other : Token) → portion first one (first ∷ roles) tokens ≡ begun_by one (portion first other (first ∷ roles) tokens)
 unfolding FilledList
-portion_found role.TerminalsWord roles tokens filled paired kind one other = refl
-portion_found role.SyntaxWord roles tokens filled paired kind one other = refl
-portion_found role.JudgmentWord roles tokens filled paired kind one other =
+portion_found role.TerminalsWord roles tokens filled paired kind defined one other = refl
+portion_found role.SyntaxWord roles tokens filled paired kind defined one other = refl
+portion_found role.JudgmentWord roles tokens filled paired kind defined one other =
     let all = role.JudgmentWord ∷ roles in
     λ i. judgment one (name_found a_name role.Name is_name_role all tokens paired filled.0.0 one other i) (form_of role.Form all tokens) (named role.Assumed all tokens)
-portion_found role.RulePremise roles tokens filled paired kind one other =
+portion_found role.RulePremise roles tokens filled paired kind defined one other =
     let all = role.RulePremise ∷ roles in
     λ i. rule (premises all tokens) (name_found a_name role.Name is_name_role all tokens paired filled.0.0 one other i) (form_of role.Form all tokens)
-portion_found role.RuleBar roles tokens filled paired kind one other =
+portion_found role.RuleBar roles tokens filled paired kind defined one other =
     let all = role.RuleBar ∷ roles in
     λ i. rule (premises all tokens) (name_found a_name role.Name is_name_role all tokens paired filled.0.0 one other i) (form_of role.Form all tokens)
-portion_found role.AndWord roles tokens filled paired kind one other =
+portion_found role.AndWord roles tokens filled paired kind defined one other =
     let all = role.AndWord ∷ roles in
     λ i. theorem one true (name_found a_kind_word role.KindWord is_kind_word_role all tokens paired filled.0.0 one other i) (name_found a_name role.Name is_name_role all tokens paired filled.0.1.0 one other i)
     (named role.Assumed all tokens) (inputs all tokens) (outputs all tokens) (all_named role.Target all tokens)
-portion_found role.TheoremWord roles tokens filled paired kind one other =
+portion_found role.TheoremWord roles tokens filled paired kind defined one other =
     let all = role.TheoremWord ∷ roles in
     λ i. theorem one false (kind_absent all tokens (kind refl) one i) (name_found a_name role.Name is_name_role all tokens paired filled.0.0 one other i)
     (named role.Assumed all tokens) (inputs all tokens) (outputs all tokens) (all_named role.Target all tokens)
-portion_found role.StepName roles tokens filled paired kind one other =
+portion_found role.StepName roles tokens filled paired kind defined one other =
     let all = role.StepName ∷ roles in
     λ i. step one (all_named role.StepName all tokens) (forms role.Form all tokens) (just_found (call all) all tokens paired (call_needs all filled) (called all tokens paired) one other i)
-portion_found role.ProofWord roles tokens filled paired kind one other =
+portion_found role.ProofWord roles tokens filled paired kind defined one other =
     let all = role.ProofWord ∷ roles in
     λ i. step one (all_named role.StepName all tokens) (forms role.Form all tokens) (just_found (call all) all tokens paired (call_needs all filled) (called all tokens paired) one other i)
-portion_found role.InversionWord roles tokens filled paired kind one other =
+portion_found role.InversionWord roles tokens filled paired kind defined one other =
     let all = role.InversionWord ∷ roles in
     λ i. inversion one (subject_found all tokens paired filled.0.0 one other i) (named_forms all tokens) (name_found a_name role.Name is_name_role all tokens paired filled.0.1.0 one other i)
     (conclusion_found all tokens paired filled.0.1.1.0 one other i)
-portion_found role.CaseWord [] tokens filled paired kind one other = refl
-portion_found role.CaseWord (role.RuleCase ∷ roles) tokens filled paired kind one other =
+portion_found role.CaseWord [] tokens filled paired kind defined one other = refl
+portion_found role.CaseWord (role.RuleCase ∷ roles) tokens filled paired kind defined one other =
     let all = role.CaseWord ∷ role.RuleCase ∷ roles in
     λ i. case_rule one (named_forms all tokens) (name_found a_name role.Name is_name_role all tokens paired filled.1.0.0 one other i) (conclusion_found all tokens paired filled.1.0.1.0 one other i)
-portion_found role.CaseWord (next ∷ roles) tokens filled paired kind one other = refl
-portion_found role.EndWord roles tokens filled paired kind one other = refl
-portion_found _ [] tokens filled paired kind one other = refl
-portion_found _ (next ∷ roles) tokens filled paired kind one other = refl
+portion_found role.CaseWord (next ∷ roles) tokens filled paired kind defined one other = refl
+portion_found role.EndWord roles tokens filled paired kind defined one other = refl
+portion_found role.CategoryName [] tokens filled paired kind defined one other = absurd (let no : false ≡ true = filled.0.0 in cc)
+portion_found role.CategoryName (next ∷ roles) tokens filled paired kind defined one other =
+    λ i. category one (second_found role.CategoryName next roles tokens paired one other i) (productions roles (drop 2 tokens))
+portion_found _ [] tokens filled paired kind defined one other = absurd (let no : false ≡ true = defined refl in cc)
+portion_found _ (next ∷ roles) tokens filled paired kind defined one other =
+    λ i. category one (second_found _ next roles tokens paired one other i) (productions roles (drop 2 tokens))
 
 -- no `theorem` or `lemma` after `and` in the portion of another token
 no_kind : (before : Role) (roles : List Role) → KindsBehindAnd (before ∷ roles) → before ≢ role.AndWord → met_in a_kind_word (within_portion roles) ≡ false
@@ -261,7 +276,8 @@ found (first ∷ roles) (token ∷ tokens) filled kinds paired = (
   (λ starts one other. subst (λ (n : ℕ). portion first one (take n (first ∷ roles)) (take n (token ∷ tokens)) ≡ begun_by one (portion first other (take n (first ∷ roles)) (take n (token ∷ tokens))))
       (sym (add-one (portion_length roles)))
       (portion_found first (within_portion roles) (token ∷ take (portion_length roles) tokens) (filled.0, filled_within roles filled.2)
-      (paired_take (portion_length roles) roles tokens paired) (no_kind_in first roles kinds) one other)),
+      (paired_take (portion_length roles) roles tokens paired) (no_kind_in first roles kinds)
+      (λ none. filled.1 (begun_later (begins first) (names_category roles) starts none)) one other)),
   found roles tokens filled.2 kinds.1 paired,
 )
   where

@@ -9,7 +9,7 @@ use Rattle.outline_reader.specs.Views as lent
 use Rattle.outline_reader.specs.Views.{Piece}
 use Rattle.outline_reader.specs.Fields.{name_or, form_if, form_of, head_conclusion, named_forms, productions}
 use Rattle.outline_reader.specs.Plain.{plain_form, plain_justification, plain_portion, by_rule_of, by_theorem, by_hypothesis, by_cases, by_induction, by_contradiction, by_weakening, by_exchange, by_substitution, by_names, terminals, category, judgment_of, rule_of, theorem_of, step_of, inversion, case_rule, case_term}
-use Rattle.outline_reader.specs.Portions.{begins, names_category, portion_size, call, just_by, theorem_header, step_line, case_head, inversion_head, rule_lines, category_line, portion, portions}
+use Rattle.outline_reader.specs.Portions.{begins, names_category, portion_size, call, just_by, theorem_header, step_line, case_head, inversion_head, rule_lines, second_or, category_line, portion, portions}
 use Rattle.outline_reader.proofs.FieldLemmas.{placeless, all_placeless, seen_choice_cons, plain_tokens, plain_named, plain_name_or, plain_form_if, plain_form_of, plain_subject, plain_head_conclusion, plain_all_named, plain_forms, plain_premises, plain_outputs, plain_named_forms, plain_inputs, plain_args, plain_productions}
 
 plain_just_by : (by : Role) (first : Token) (roles : List Role) (tokens : List Token) → plain_justification (just_by by (placeless first) roles (all_placeless tokens)) ≡ plain_justification (just_by by first roles tokens)
@@ -62,12 +62,17 @@ plain_inversion first roles tokens = λ i.
 plain_rule : (first : Token) (roles : List Role) (tokens : List Token) → plain_portion (rule_lines (placeless first) roles (all_placeless tokens)) ≡ plain_portion (rule_lines first roles tokens)
 plain_rule first roles tokens = λ i. rule_of (plain_premises roles tokens i) (plain_name_or first role.Name roles tokens i) (plain_form_of role.Form roles tokens i)
 
+plain_second : (first : Token) (tokens : List Token) → token_view (second_or (placeless first) (all_placeless tokens)) ≡ token_view (second_or first tokens)
+plain_second first [] = refl
+plain_second first (one ∷ []) = refl
+plain_second first (one ∷ second ∷ tokens) = refl
+
 plain_category : (first : Token) (roles : List Role) (tokens : List Token) → plain_portion (category_line (placeless first) roles (all_placeless tokens)) ≡ plain_portion (category_line first roles tokens)
 plain_category first [] tokens = refl
 plain_category first (one ∷ []) tokens = refl
 plain_category first (one ∷ define ∷ roles) tokens =
-    ap (λ ts. category (token_view first) (map plain_form (productions roles ts))) (drop-map placeless 2 tokens)
-    ∙ ap (λ forms. category (token_view first) forms) (plain_productions roles (drop 2 tokens))
+    let forms = ap (λ ts. map plain_form (productions roles ts)) (drop-map placeless 2 tokens) ∙ plain_productions roles (drop 2 tokens) in
+    λ i. category (token_view first) (plain_second first tokens i) (forms i)
 
 plain_judgment : (first : Token) (roles : List Role) (tokens : List Token) → plain_portion (portion role.JudgmentWord (placeless first) roles (all_placeless tokens)) ≡ plain_portion (portion role.JudgmentWord first roles tokens)
 plain_judgment first roles tokens = λ i.

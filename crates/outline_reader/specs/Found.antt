@@ -10,7 +10,7 @@ use Rattle.outline_reader.specs.Portions.{begins, names_category, portion_size, 
 abbrev pub begun_by : Token → Piece → Piece
 begun_by first (terminals old items) = terminals first items
 begun_by first (syntax old) = syntax first
-begun_by first (category old productions) = category first productions
+begun_by first (category old mark productions) = category first mark productions
 begun_by first (judgment old name form assumes) = judgment first name form assumes
 begun_by first (rule premises name conclusion) = rule premises name conclusion
 begun_by first (theorem old true kind name assumes inputs outputs targets) = theorem first true kind name assumes inputs outputs targets

@@ -42,8 +42,8 @@ pub data PlainJustification : Type 0 where
 pub data PlainPortion : Type 0 where
   terminals : PlainToken → List PlainToken → PlainPortion
   syntax_word : PlainToken → PlainPortion
-  -- the name, the productions
-  category : PlainToken → List (List PlainToken) → PlainPortion
+  -- the name, the `::=`, the productions
+  category : PlainToken → PlainToken → List (List PlainToken) → PlainPortion
   -- the first token, the name, the form, what is assumed
   judgment_of : PlainToken → PlainToken → List PlainToken → Option PlainToken → PlainPortion
   -- the premises, the name, the conclusion
@@ -94,7 +94,7 @@ plain_justification (lent.by_names names) = by_names (map token_view names)
 abbrev pub plain_portion : lent.Piece → PlainPortion
 plain_portion (lent.terminals first items) = terminals (token_view first) (plain_form items)
 plain_portion (lent.syntax first) = syntax_word (token_view first)
-plain_portion (lent.category name productions) = category (token_view name) (map plain_form productions)
+plain_portion (lent.category name mark productions) = category (token_view name) (token_view mark) (map plain_form productions)
 plain_portion (lent.judgment first name form assumes) = judgment_of (token_view first) (token_view name) (plain_form form) (option_map token_view assumes)
 plain_portion (lent.rule premises name conclusion) = rule_of (map plain_form premises) (token_view name) (plain_form conclusion)
 plain_portion (lent.theorem first joined kind name assumes inputs outputs targets) =

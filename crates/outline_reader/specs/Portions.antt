@@ -109,10 +109,15 @@ inversion_head first roles tokens = inversion first (subject first roles tokens)
 abbrev pub rule_lines : Token → List Role → List Token → Piece
 rule_lines first roles tokens = rule (premises roles tokens) (name_or first role.Name roles tokens) (form_of role.Form roles tokens)
 
--- the productions begin behind the name and `::=`
+-- the second token, or else the first of the portion
+abbrev pub second_or : Token → List Token → Token
+second_or first (one ∷ second ∷ tokens) = second
+second_or first _ = first
+
+-- the name, the `::=`, and the productions behind it
 abbrev pub category_line : Token → List Role → List Token → Piece
-category_line first (one ∷ define ∷ roles) tokens = category first (productions roles (drop 2 tokens))
-category_line first _ tokens = category first (productions [] [])
+category_line first (one ∷ define ∷ roles) tokens = category first (second_or first tokens) (productions roles (drop 2 tokens))
+category_line first _ tokens = category first first (productions [] [])
 
 -- the portion that begins with the first token, which has this role
 abbrev pub portion : Role → Token → List Role → List Token → Piece

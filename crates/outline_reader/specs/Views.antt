@@ -56,8 +56,8 @@ pub data Justification : Type 0 where
 pub data Piece : Type 0 where
   terminals : Token → List Token → Piece
   syntax : Token → Piece
-  -- the name, the productions
-  category : Token → List (List Token) → Piece
+  -- the name, the `::=`, the productions
+  category : Token → Token → List (List Token) → Piece
   -- the first token, the name, the form, what is assumed
   judgment : Token → Token → List Token → Option Token → Piece
   -- the premises, the name, the conclusion
@@ -89,7 +89,7 @@ just_view (just.Names names) = by_names (map (λ name. name.now) names.items)
 abbrev pub portion_view : Portion → Piece
 portion_view (portion.Terminals first items) = terminals first.now items.now
 portion_view (portion.Syntax first) = syntax first.now
-portion_view (portion.Category name productions) = category name.now (map (λ form. form.now) productions.items)
+portion_view (portion.Category name mark productions) = category name.now mark.now (map (λ form. form.now) productions.items)
 portion_view (portion.Judgment first name form assumes) = judgment first.now name.now form.now (option_map (λ name. name.now) assumes)
 portion_view (portion.Rule premises name conclusion) = rule (map (λ form. form.now) premises.items) name.now conclusion.now
 portion_view (portion.Theorem first joined kind name assumes inputs outputs targets) =

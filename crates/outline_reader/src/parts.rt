@@ -69,8 +69,10 @@ pub enum Portion<'a> {
     Syntax {
         first: Name<'a>,
     },
+    /// `mark` is the `::=`, which may stand on a later line than the name.
     Category {
         name: Name<'a>,
+        mark: Name<'a>,
         productions: Vec<Form<'a>>,
     },
     Judgment {

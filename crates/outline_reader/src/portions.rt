@@ -296,6 +296,16 @@ fn portion<'a>(
     }
 }
 
+/// The second token, or else the first of the portion.
+fn second_or<'a>(first: Name<'a>, tokens: &'a [Token<'a>]) -> Name<'a>
+    ensures { result.now ≡ spec.second_or first.now tokens.now }
+{
+    match tokens {
+        [_, second, ..] => second,
+        _ => first,
+    }
+}
+
 /// A category.
 fn category<'a>(
     alloc: Global,
@@ -309,10 +319,12 @@ fn category<'a>(
     match roles {
         [_, _, rest @ ..] => Ok(Portion::Category {
             name: first,
+            mark: second_or(first, tokens),
             productions: productions(alloc, rest, behind(tokens, 2))?,
         }),
         _ => Ok(Portion::Category {
             name: first,
+            mark: first,
             productions: productions(alloc, &[], &[])?,
         }),
     }

@@ -14,7 +14,7 @@ use Rattle.outline_reader.specs.Plain.{PlainPortion, plain_portion}
 use Rattle.outline_reader.specs.Portions.{begins, names_category, portion_length, portion_size, portion, portions, case_head, category_line}
 use Rattle.outline_reader.specs.Views.{Piece}
 use Rattle.user_grammar.specs.File.{WrittenCategory, category_in, categories}
-use Rattle.proof_check.proofs.PortionTokens.{Among, any_split, any_drop, InForms, OfPortion, portion_among, piece_of, InPieces, portions_among, in_this, category_portion}
+use Rattle.proof_check.proofs.PortionTokens.{Among, any_split, any_drop, BehindName, OfPortion, portion_among, piece_of, InPieces, portions_among, in_this, category_portion}
 
 -- each token begins before all that follow it
 abbrev pub Rising : List Token → Type 0
@@ -132,24 +132,24 @@ module _ (begun : Role) (roles : List Role) (x : Token) (tokens : List Token) wh
   within_piece v (inl same) = inl same
   within_piece v (inr among) = subst (λ (n : ℕ). Among (take n (x ∷ tokens)) v) (sym (one_more (portion_length roles))) among
 
-  form_of_piece : (written : WrittenCategory) (v : PlainToken) → IsThis written → InForms written.forms v → Among (take (suc (portion_length roles)) (x ∷ tokens)) v
-  form_of_piece written v here stands =
+  behind_in_piece : (written : WrittenCategory) (v : PlainToken) → IsThis written → BehindName written v → Among (take (suc (portion_length roles)) (x ∷ tokens)) v
+  behind_in_piece written v here stands =
       within_piece v (portion_among begun x (take (portion_size (begun ∷ roles)) (begun ∷ roles)) (take (portion_size (begun ∷ roles)) (x ∷ tokens)) v
       (in_this (plain_portion (piece_of begun roles x tokens)) written v here (inr stands)))
 
-  form_of_rest : (written : WrittenCategory) (v : PlainToken) → IsCategoryIn Rest written → InForms written.forms v → Among (drop (portion_length roles) tokens) v
-  form_of_rest written v there stands =
+  behind_in_rest : (written : WrittenCategory) (v : PlainToken) → IsCategoryIn Rest written → BehindName written v → Among (drop (portion_length roles) tokens) v
+  behind_in_rest written v there stands =
       portions_among (drop (portion_length roles) roles) (drop (portion_length roles) tokens) v
       (subst (λ (ps : List Piece). InPieces ps v) (skipped roles tokens) (category_portion Rest written v there (inr stands)))
 
-  apart : (w z : WrittenCategory) (v y : PlainToken) → Rising (x ∷ tokens) → IsThis w → IsCategoryIn Rest z → InForms w.forms v → InForms z.forms y → v.from ≡ y.from → ⊥
+  apart : (w z : WrittenCategory) (v y : PlainToken) → Rising (x ∷ tokens) → IsThis w → IsCategoryIn Rest z → BehindName w v → BehindName z y → v.from ≡ y.from → ⊥
   apart w z v y rises here there in_w in_z e =
-      not_less v.from y.from e (taken_before (suc (portion_length roles)) (x ∷ tokens) v y rises (form_of_piece w v here in_w) (form_of_rest z y there in_z))
+      not_less v.from y.from e (taken_before (suc (portion_length roles)) (x ∷ tokens) v y rises (behind_in_piece w v here in_w) (behind_in_rest z y there in_z))
 
   named_this : (written : WrittenCategory) → IsThis written → written.name ≡ token_view x
   named_this written here = category_named begun x (take (portion_size (begun ∷ roles)) (begun ∷ roles)) (take (portion_size (begun ∷ roles)) (x ∷ tokens)) written here
 
-  module _ (one two : WrittenCategory) (t u : PlainToken) (rises : Rising (x ∷ tokens)) (in_one : InForms one.forms t) (in_two : InForms two.forms u) (same : t.from ≡ u.from)
+  module _ (one two : WrittenCategory) (t u : PlainToken) (rises : Rising (x ∷ tokens)) (in_one : BehindName one t) (in_two : BehindName two u) (same : t.from ≡ u.from)
       (below : IsCategoryIn Rest one → IsCategoryIn Rest two → one.name ≡ two.name) where
     either : IsThis one ⊎ IsCategoryIn Rest one → IsThis two ⊎ IsCategoryIn Rest two → one.name ≡ two.name
     either (inl a) (inl b) = named_this one a ∙ sym (named_this two b)
@@ -167,7 +167,7 @@ module _ (begun : Role) (roles : List Role) (x : Token) (tokens : List Token) wh
 -- a category that shares a token with another has its name
 pub one_name : (roles : List Role) (tokens : List Token) → Rising tokens → (one two : WrittenCategory) (t u : PlainToken) →
     IsCategoryIn (map plain_portion (portions roles tokens)) one → IsCategoryIn (map plain_portion (portions roles tokens)) two →
-    InForms one.forms t → InForms two.forms u → t.from ≡ u.from → one.name ≡ two.name
+    BehindName one t → BehindName two u → t.from ≡ u.from → one.name ≡ two.name
 one_name [] tokens rises one two t u first second in_one in_two same = absurd first
 one_name (begun ∷ roles) [] rises one two t u first second in_one in_two same = absurd first
 one_name (begun ∷ roles) (x ∷ tokens) rises one two t u first second in_one in_two same =

@@ -79,7 +79,7 @@ pub other_turn : (th : Theory) (sts : List Theorem) (k : ℕ) (p : PlainPortion)
     Begins (AreStepsFrom th sts k (p ∷ portions)) (AreStepsFrom th sts k portions) []
 other_turn th sts k (terminals first items) portions none = record { sound = λ rest h. (tt, h); complete = λ all h. (all, refl, h.1) }
 other_turn th sts k (syntax_word first) portions none = record { sound = λ rest h. (tt, h); complete = λ all h. (all, refl, h.1) }
-other_turn th sts k (category name productions) portions none = record { sound = λ rest h. (tt, h); complete = λ all h. (all, refl, h.1) }
+other_turn th sts k (category name mark productions) portions none = record { sound = λ rest h. (tt, h); complete = λ all h. (all, refl, h.1) }
 other_turn th sts k (judgment_of first name form assumes) portions none = record { sound = λ rest h. (tt, h); complete = λ all h. (all, refl, h.1) }
 other_turn th sts k (rule_of premises name conclusion) portions none = record { sound = λ rest h. (tt, h); complete = λ all h. (all, refl, h.1) }
 other_turn th sts k (theorem_of first joined kind name assumes inputs outputs targets) portions none = absurd none

@@ -15,21 +15,21 @@ no_judgments : (ps : List PlainPortion) → AllByRecursion IsGrammarPortion ps �
 no_judgments [] all = refl
 no_judgments (terminals first items ∷ ps) all = no_judgments ps all.1
 no_judgments (syntax_word first ∷ ps) all = no_judgments ps all.1
-no_judgments (category name forms ∷ ps) all = no_judgments ps all.1
+no_judgments (category name mark forms ∷ ps) all = no_judgments ps all.1
 no_judgments (p ∷ ps) all = absurd all.0
 
 no_rules : (n : ℕ) (ps : List PlainPortion) → AllByRecursion IsGrammarPortion ps → rules_in n ps ≡ []
 no_rules n [] all = refl
 no_rules n (terminals first items ∷ ps) all = no_rules n ps all.1
 no_rules n (syntax_word first ∷ ps) all = no_rules n ps all.1
-no_rules n (category name forms ∷ ps) all = no_rules n ps all.1
+no_rules n (category name mark forms ∷ ps) all = no_rules n ps all.1
 no_rules n (p ∷ ps) all = absurd all.0
 
 no_theorems : (n : ℕ) (ps : List PlainPortion) → AllByRecursion IsGrammarPortion ps → theorems_in n ps ≡ []
 no_theorems n [] all = refl
 no_theorems n (terminals first items ∷ ps) all = no_theorems n ps all.1
 no_theorems n (syntax_word first ∷ ps) all = no_theorems n ps all.1
-no_theorems n (category name forms ∷ ps) all = no_theorems n ps all.1
+no_theorems n (category name mark forms ∷ ps) all = no_theorems n ps all.1
 no_theorems n (p ∷ ps) all = absurd all.0
 
 no_name : (what : Declared) (p : PlainPortion) → IsGrammarPortion p → declared_name what p ≡ None
@@ -39,9 +39,9 @@ no_name a_theorem (terminals first items) is = refl
 no_name a_judgment (syntax_word first) is = refl
 no_name a_rule (syntax_word first) is = refl
 no_name a_theorem (syntax_word first) is = refl
-no_name a_judgment (category name forms) is = refl
-no_name a_rule (category name forms) is = refl
-no_name a_theorem (category name forms) is = refl
+no_name a_judgment (category name mark forms) is = refl
+no_name a_rule (category name mark forms) is = refl
+no_name a_theorem (category name mark forms) is = refl
 no_name what p is = absurd is
 
 not_same : (x y : Option (List ℕ)) → x ≡ None → IsSameName x y → ⊥
@@ -61,7 +61,7 @@ no_steps : (th : Theory) (ps : List PlainPortion) → AllByRecursion IsGrammarPo
 no_steps th [] all = (refl, refl)
 no_steps th (terminals first items ∷ ps) all = (tt, no_steps th ps all.1)
 no_steps th (syntax_word first ∷ ps) all = (tt, no_steps th ps all.1)
-no_steps th (category name forms ∷ ps) all = (tt, no_steps th ps all.1)
+no_steps th (category name mark forms ∷ ps) all = (tt, no_steps th ps all.1)
 no_steps th (p ∷ ps) all = absurd all.0
 
 pub grammars_are_files : GrammarsAreFiles

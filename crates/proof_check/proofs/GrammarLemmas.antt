@@ -1,6 +1,6 @@
 -- A source has one first fault of its grammar at most.
 use native.Mathlib.Omega.{arith}
-use Rattle.std.proofs.Common.{◌≡◌, ◌≢◌, ◌⊎◌, ◌<◌, ◌≤◌, ℕ, zero, suc, List, [], ◌∷◌, ◌++◌, map, inl, inr, refl, sym, ap, subst, ◌∙◌}
+use Rattle.std.proofs.Common.{◌≡◌, ◌⊎◌, ◌<◌, ◌≤◌, ℕ, zero, suc, List, [], ◌∷◌, ◌++◌, map, inl, inr, refl, sym, ap, subst, ◌∙◌}
 use Rattle.std.specs.List.{Contains}
 use Rattle.binding_terms.specs.Numbered.{AnyByRecursion}
 use Rattle.sy_base.specs.Tokens.{PlainToken}
@@ -12,7 +12,7 @@ use Rattle.outline_reader.specs.Plain.{PlainPortion, terminals, category, judgme
 use Rattle.user_grammar.specs.File.{WrittenCategory, categories}
 use Rattle.user_grammar.specs.Fault.{Declared, declared_as, a_terminal, a_variable, DeclareAll, DeclaresHere, AreVariables, no_variables, a_word, a_production, IsDuplicate, common_spelling, second_variable, IsWrongInBrackets, no_word, no_binder, again, no_comma, not_closed, AssumesHere, IsFault, duplicate, empty_production, single_category, unknown_word, unknown_context, bad_binder, binder_twice, bad_context, IsFirstFault, IsToldFirst, rank}
 use Rattle.proof_check.proofs.TokenLemmas.{same_place}
-use Rattle.proof_check.proofs.PortionTokens.{In, contains_any, any_one, any_split, in_split, InForms, InPortion, of_source, category_portion}
+use Rattle.proof_check.proofs.PortionTokens.{In, contains_any, any_one, any_split, in_split, InForms, BehindName, InPortion, of_source, category_portion}
 use Rattle.proof_check.proofs.CategoryTokens.{IsCategoryIn, rising, one_name}
 
 -- ---- the token of a fault
@@ -30,7 +30,7 @@ declared_here ps (terminals first items) ds token is there = items_of items (sub
     items_of [] there = absurd there
     items_of (t ∷ items) (inl same) = inl same
     items_of (t ∷ items) (inr there) = inr (items_of items there)
-declared_here ps (category name forms) ds token is there =
+declared_here ps (category name mark forms) ds token is there =
     which (subst (AnyByRecursion (λ (d : Declared). d.token ≡ token)) is.2 there)
   where
     variables_of : (tokens : List PlainToken) → AnyByRecursion (λ (d : Declared). d.token ≡ token) (map (declared_as a_variable) tokens) → In tokens token
@@ -38,9 +38,9 @@ declared_here ps (category name forms) ds token is there =
     variables_of (t ∷ tokens) (inl same) = inl same
     variables_of (t ∷ tokens) (inr there) = inr (variables_of tokens there)
 
-    which : (name ≡ token) ⊎ AnyByRecursion (λ (d : Declared). d.token ≡ token) (map (declared_as a_variable) is.0) → (name ≡ token) ⊎ InForms forms token
+    which : (name ≡ token) ⊎ AnyByRecursion (λ (d : Declared). d.token ≡ token) (map (declared_as a_variable) is.0) → InPortion token (category name mark forms)
     which (inl same) = inl same
-    which (inr there) = inr (variable_form ps forms is.0 token is.1 (variables_of is.0 there))
+    which (inr there) = inr (inr (variable_form ps forms is.0 token is.1 (variables_of is.0 there)))
 declared_here ps p ds token is there = absurd (subst (AnyByRecursion (λ (d : Declared). d.token ≡ token)) is there)
 
 abbrev HasToken : List Declared → PlainToken → Type 0
@@ -71,16 +71,22 @@ ranked (suc (suc (suc (suc zero)))) = code.BadBinder
 ranked (suc (suc (suc (suc (suc zero))))) = code.BinderTwice
 ranked (suc (suc (suc (suc (suc (suc n)))))) = code.BadContext
 
+-- the code is told with the name of the category in which its token stands
+abbrev TellsCategory : Code → Type 0
+TellsCategory code.SingleCategory = Unit {0}
+TellsCategory code.BadContext = Unit {0}
+TellsCategory _ = ⊥
+
 module _ (ps : List PlainPortion) (token : PlainToken) where
   abbrev Here : Type 0
   Here = AnyByRecursion (InPortion token) ps
 
-  in_category : (written : WrittenCategory) → Contains (categories ps) written → (written.name ≡ token) ⊎ InForms written.forms token → Here
+  in_category : (written : WrittenCategory) → Contains (categories ps) written → (written.name ≡ token) ⊎ BehindName written token → Here
   in_category written holds stands = category_portion ps written token (contains_any (categories ps) written holds.0 holds.1 holds.2) stands
 
   in_form : (written : WrittenCategory) (form : List PlainToken) → Contains (categories ps) written → Contains written.forms form → In form token → Here
   in_form written form holds has there =
-      in_category written holds (inr (any_one (λ f. In f token) written.forms form (contains_any written.forms form has.0 has.1 has.2) there))
+      in_category written holds (inr (inr (any_one (λ f. In f token) written.forms form (contains_any written.forms form has.0 has.1 has.2) there)))
 
   stands_in : (form front rest : List PlainToken) → form ≡ front ++ token ∷ rest → In form token
   stands_in form front rest split = subst (λ (f : List PlainToken). In f token) (sym split) (in_split front rest token)
@@ -89,7 +95,7 @@ module _ (ps : List PlainPortion) (token : PlainToken) where
   duplicate_here (common_spelling all before after sort earlier word are split holds one two) =
       declared_among ps ps all token are (subst (AnyByRecursion (λ (d : Declared). d.token ≡ token)) (sym split) (declared_split before after (declared_as sort token)))
   duplicate_here (second_variable written first before after holds are) =
-      in_category written holds (inr (variable_form ps written.forms _ token are (inr (in_split before after token))))
+      in_category written holds (inr (inr (variable_form ps written.forms _ token are (inr (in_split before after token)))))
 
   wrong_here : (form : List PlainToken) → IsWrongInBrackets ps form token → In form token
   wrong_here form (no_word named stands is) = stands_in form stands.front stands.rest stands.split
@@ -105,52 +111,56 @@ module _ (ps : List PlainPortion) (token : PlainToken) where
 
   -- what is told with a code at the token
   abbrev IsOfCategory : (found : Code) (detail : List ℕ) → Type 0
-  IsOfCategory found detail = (found ≡ code.SingleCategory) × ((written : WrittenCategory) × AnyByRecursion (λ w. w ≡ written) (categories ps) × InForms written.forms token × (detail ≡ written.name.text))
+  IsOfCategory found detail =
+      TellsCategory found × ((written : WrittenCategory) × AnyByRecursion (λ w. w ≡ written) (categories ps) × BehindName written token × (detail ≡ written.name.text))
 
   abbrev IsOfToken : (found : Code) (detail : List ℕ) → Type 0
-  IsOfToken found detail = (found ≢ code.SingleCategory) × (detail ≡ token.text)
+  IsOfToken found detail = (TellsCategory found → ⊥) × (detail ≡ token.text)
 
   pub record Told (found : Code) (detail : List ℕ) : Type 0 where
     pub here : Here
     pub of_rank : found ≡ ranked (rank found)
     pub kind : IsOfToken found detail ⊎ IsOfCategory found detail
 
-  of_code : (one found : Code) (detail : List ℕ) → found ≡ one → one ≡ ranked (rank one) → (one ≢ code.SingleCategory) → detail ≡ token.text → Here → Told found detail
+  of_code : (one found : Code) (detail : List ℕ) → found ≡ one → one ≡ ranked (rank one) → (TellsCategory one → ⊥) → detail ≡ token.text → Here → Told found detail
   of_code one found detail same of_rank other words here = record {
     here = here;
     of_rank = subst (λ (c : Code). c ≡ ranked (rank c)) (sym same) of_rank;
-    kind = inl ((λ e. other (sym same ∙ e)), words);
+    kind = inl ((λ tells. other (subst TellsCategory same tells)), words);
   }
 
   told : (found : Code) (detail : List ℕ) → IsFault ps found token detail → Told found detail
-  told found detail (duplicate same words is) = of_code code.Duplicate found detail same refl (λ e. cc) words (duplicate_here is)
-  told found detail (empty_production written same words holds name has) = of_code code.EmptyProduction found detail same refl (λ e. cc) words (in_category written holds (inl (sym name)))
+  told found detail (duplicate same words is) = of_code code.Duplicate found detail same refl (λ none. none) words (duplicate_here is)
+  told found detail (empty_production written same words holds name has) = of_code code.EmptyProduction found detail same refl (λ none. none) words (in_category written holds (inl (sym name)))
   told found detail (single_category written rest same words holds has one) = record {
     here = in_form written (token ∷ rest) holds has (inl refl);
     of_rank = subst (λ (c : Code). c ≡ ranked (rank c)) (sym same) refl;
     kind = inr (
-      same,
+      subst TellsCategory (sym same) tt,
       (
         written,
         contains_any (categories ps) written holds.0 holds.1 holds.2,
-        any_one (λ f. In f token) written.forms (token ∷ rest) (contains_any written.forms (token ∷ rest) has.0 has.1 has.2) (inl refl),
+        inr (any_one (λ f. In f token) written.forms (token ∷ rest) (contains_any written.forms (token ∷ rest) has.0 has.1 has.2) (inl refl)),
         words,
       ),
     );
   }
   told found detail (unknown_word written form same words holds has is) =
       let stands = is.stands.stands in
-      of_code code.UnknownWord found detail same refl (λ e. cc) words (in_form written form holds has (stands_in form stands.front stands.rest stands.split))
+      of_code code.UnknownWord found detail same refl (λ none. none) words (in_form written form holds has (stands_in form stands.front stands.rest stands.split))
   told found detail (unknown_context p same words holds assumes none) =
-      of_code code.UnknownWord found detail same refl (λ e. cc) words
+      of_code code.UnknownWord found detail same refl (λ none. none) words
       (any_one (InPortion token) ps p (contains_any ps p holds.0 holds.1 holds.2) (assumed_here p assumes))
   told found detail (bad_binder written form same words holds has is) =
-      of_code code.BadBinder found detail same refl (λ e. cc) words (in_form written form holds has (wrong_here form is))
+      of_code code.BadBinder found detail same refl (λ none. none) words (in_form written form holds has (wrong_here form is))
   told found detail (binder_twice written form same words holds has is) =
       let stands = is.stands.stands in
-      of_code code.BinderTwice found detail same refl (λ e. cc) words (in_form written form holds has (stands_in form stands.front stands.rest stands.split))
-  told found detail (bad_context written same words holds name among none) =
-      of_code code.BadContext found detail same refl (λ e. cc) words (in_category written holds (inl (sym name)))
+      of_code code.BinderTwice found detail same refl (λ none. none) words (in_form written form holds has (stands_in form stands.front stands.rest stands.split))
+  told found detail (bad_context written same words holds mark among none) = record {
+    here = in_category written holds (inr (inl (sym mark)));
+    of_rank = subst (λ (c : Code). c ≡ ranked (rank c)) (sym same) refl;
+    kind = inr (subst TellsCategory (sym same) tt, (written, contains_any (categories ps) written holds.0 holds.1 holds.2, inl (sym mark), words));
+  }
 
 -- ---- one first fault
 
@@ -179,7 +189,7 @@ told_both one two a b (inr x) (inr y) = let told = by_rank x.1 y.1 in (x.0, told
         both m n p q = (omega arith)
 
 module _ (source : List ℕ) (ps : List PlainPortion) (has : HasPortions source ps) where
-  same_name : (one two : WrittenCategory) (t u : PlainToken) → IsCategoryIn ps one → IsCategoryIn ps two → InForms one.forms t → InForms two.forms u → t.from ≡ u.from → one.name ≡ two.name
+  same_name : (one two : WrittenCategory) (t u : PlainToken) → IsCategoryIn ps one → IsCategoryIn ps two → BehindName one t → BehindName two u → t.from ≡ u.from → one.name ≡ two.name
   same_name one two t u first second in_one in_two same =
       let here = has.plain ∙ ap (map plain_portion) has.outline.2 in
       let stand = tokens_stand source _ has.are_tokens in

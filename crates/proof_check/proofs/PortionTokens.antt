@@ -11,7 +11,7 @@ use Rattle.outline_reader.specs.declared.symbols.Role.{Role}
 use Rattle.outline_reader.specs.declared.symbols.Role.TheVariants as role
 use Rattle.outline_reader.specs.Fields.{same_role, named, production_length, later_productions, productions}
 use Rattle.outline_reader.specs.Plain.{PlainPortion, terminals, category, judgment_of, theorem_of, plain_form, plain_portion, HasPortions}
-use Rattle.outline_reader.specs.Portions.{begins, names_category, portion_size, portion, portions, case_head, category_line}
+use Rattle.outline_reader.specs.Portions.{begins, names_category, portion_size, portion, portions, case_head, second_or, category_line}
 use Rattle.outline_reader.specs.Views.{Piece}
 use Rattle.user_grammar.specs.File.{WrittenCategory, category_in, categories}
 use Rattle.proof_check.proofs.TokenLemmas.{IsTokenOf, StandsAmong}
@@ -82,9 +82,16 @@ among_split (t ∷ tokens) token (inr is) =
 abbrev pub InForms : List (List PlainToken) → PlainToken → Type 0
 InForms forms token = AnyByRecursion (λ form. In form token) forms
 
+-- the token is the `::=` of a category, or stands in one of its productions
+abbrev pub StandsBehind : PlainToken → List (List PlainToken) → PlainToken → Type 0
+StandsBehind mark forms token = (mark ≡ token) ⊎ InForms forms token
+
+abbrev pub BehindName : WrittenCategory → PlainToken → Type 0
+BehindName written token = StandsBehind written.mark written.forms token
+
 abbrev pub InPortion : PlainToken → PlainPortion → Type 0
 InPortion token (terminals first items) = In items token
-InPortion token (category name forms) = (name ≡ token) ⊎ InForms forms token
+InPortion token (category name mark forms) = (name ≡ token) ⊎ StandsBehind mark forms token
 InPortion token (judgment_of first name form assumes) = assumes ≡ Some token
 InPortion token (theorem_of first joined kind name assumes inputs outputs targets) = assumes ≡ Some token
 InPortion token _ = ⊥
@@ -124,15 +131,23 @@ no_case_token first (word ∷ []) tokens token is = is
 no_case_token first (word ∷ role.RuleCase ∷ roles) tokens token is = is
 no_case_token first (word ∷ other ∷ roles) tokens token is = is
 
+second_among : (first : Token) (tokens : List Token) (token : PlainToken) → token_view (second_or first tokens) ≡ token → OfPortion first tokens token
+second_among first [] token same = inl same
+second_among first (one ∷ []) token same = inl same
+second_among first (one ∷ second ∷ tokens) token same = inr (inr (inl same))
+
 category_among : (first : Token) (roles : List Role) (tokens : List Token) (token : PlainToken) → InPortion token (plain_portion (category_line first roles tokens)) → OfPortion first tokens token
 category_among first [] tokens token (inl same) = inl same
-category_among first [] tokens token (inr (inl none)) = absurd none
-category_among first [] tokens token (inr (inr none)) = absurd none
+category_among first [] tokens token (inr (inl same)) = inl same
+category_among first [] tokens token (inr (inr (inl none))) = absurd none
+category_among first [] tokens token (inr (inr (inr none))) = absurd none
 category_among first (one ∷ []) tokens token (inl same) = inl same
-category_among first (one ∷ []) tokens token (inr (inl none)) = absurd none
-category_among first (one ∷ []) tokens token (inr (inr none)) = absurd none
+category_among first (one ∷ []) tokens token (inr (inl same)) = inl same
+category_among first (one ∷ []) tokens token (inr (inr (inl none))) = absurd none
+category_among first (one ∷ []) tokens token (inr (inr (inr none))) = absurd none
 category_among first (one ∷ define ∷ roles) tokens token (inl same) = inl same
-category_among first (one ∷ define ∷ roles) tokens token (inr there) =
+category_among first (one ∷ define ∷ roles) tokens token (inr (inl same)) = second_among first tokens token same
+category_among first (one ∷ define ∷ roles) tokens token (inr (inr there)) =
     inr (any_drop (λ t. token_view t ≡ token) 2 tokens (productions_among roles (drop 2 tokens) token there))
 
 pub portion_among : (begun : Role) (first : Token) (roles : List Role) (tokens : List Token) (token : PlainToken) → InPortion token (plain_portion (portion begun first roles tokens)) → OfPortion first tokens token
@@ -181,19 +196,19 @@ of_source source ps token has is =
     record { tokens = map token_view has.tokens; are = has.are_tokens; stands = among_split has.tokens token (portions_among has.outline.0 has.tokens token here) }
 
 pub in_this : (p : PlainPortion) (written : WrittenCategory) (token : PlainToken) → AnyByRecursion (λ w. w ≡ written) (category_in p) →
-    (written.name ≡ token) ⊎ InForms written.forms token → InPortion token p
-in_this (category name forms) written token (inl same) stands = subst (λ (w : WrittenCategory). (w.name ≡ token) ⊎ InForms w.forms token) (sym same) stands
-in_this (category name forms) written token (inr none) stands = absurd none
+    (written.name ≡ token) ⊎ BehindName written token → InPortion token p
+in_this (category name mark forms) written token (inl same) stands = subst (λ (w : WrittenCategory). (w.name ≡ token) ⊎ BehindName w token) (sym same) stands
+in_this (category name mark forms) written token (inr none) stands = absurd none
 in_this p written token is stands = absurd is
 
-category_there : (p : PlainPortion) (ps : List PlainPortion) (written : WrittenCategory) (token : PlainToken) → (written.name ≡ token) ⊎ InForms written.forms token →
+category_there : (p : PlainPortion) (ps : List PlainPortion) (written : WrittenCategory) (token : PlainToken) → (written.name ≡ token) ⊎ BehindName written token →
     (AnyByRecursion (λ w. w ≡ written) (categories ps) → AnyByRecursion (InPortion token) ps) →
     AnyByRecursion (λ (w : WrittenCategory). w ≡ written) (category_in p) ⊎ AnyByRecursion (λ (w : WrittenCategory). w ≡ written) (categories ps) → AnyByRecursion (InPortion token) (p ∷ ps)
 category_there p ps written token stands below (inl here) = inl (in_this p written token here stands)
 category_there p ps written token stands below (inr there) = inr (below there)
 
 pub category_portion : (ps : List PlainPortion) (written : WrittenCategory) (token : PlainToken) → AnyByRecursion (λ w. w ≡ written) (categories ps) →
-    (written.name ≡ token) ⊎ InForms written.forms token → AnyByRecursion (InPortion token) ps
+    (written.name ≡ token) ⊎ BehindName written token → AnyByRecursion (InPortion token) ps
 category_portion [] written token is stands = absurd is
 category_portion (p ∷ ps) written token is stands =
     category_there p ps written token stands (λ there. category_portion ps written token there stands) (any_split (λ (w : WrittenCategory). w ≡ written) (category_in p) (categories ps) is)

@@ -24,7 +24,7 @@ adds_none old mid P Q a none all h = (let c = a.2.complete all h in none c.0 c.2
 end_makes_none : (th : Theory) (st : Theorem) (scope : Names) (named : List (List ℕ)) (p : PlainPortion) (line : ℕ) (made : MadeStep) → IsProofEnd p line → StandsFor th st scope named p made → ⊥
 end_makes_none th st scope named (terminals first items) line made e h = h
 end_makes_none th st scope named (syntax_word first) line made e h = h
-end_makes_none th st scope named (category name productions) line made e h = h
+end_makes_none th st scope named (category name mark productions) line made e h = h
 end_makes_none th st scope named (judgment_of first name form assumes) line made e h = h
 end_makes_none th st scope named (rule_of premises name conclusion) line made e h = h
 end_makes_none th st scope named (theorem_of first joined kind name assumes inputs outputs targets) line made e h = h

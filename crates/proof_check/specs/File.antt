@@ -52,7 +52,7 @@ IsBuiltFileOf portions th statements steps = IsFileOf portions th statements ste
 abbrev pub IsGrammarPortion : PlainPortion → Type 0
 IsGrammarPortion (terminals first items) = Unit {0}
 IsGrammarPortion (syntax_word first) = Unit {0}
-IsGrammarPortion (category name productions) = Unit {0}
+IsGrammarPortion (category name mark productions) = Unit {0}
 IsGrammarPortion _ = ⊥
 
 -- a file of terminals and syntax parts alone, which stands for a signature

@@ -47,7 +47,7 @@ IsProofEnd _ line = ⊥
 abbrev pub HoldsNoProof : PlainPortion → Type 0
 HoldsNoProof (terminals first items) = Unit {0}
 HoldsNoProof (syntax_word first) = Unit {0}
-HoldsNoProof (category name productions) = Unit {0}
+HoldsNoProof (category name mark productions) = Unit {0}
 HoldsNoProof (judgment_of first name form assumes) = Unit {0}
 HoldsNoProof (rule_of premises name conclusion) = Unit {0}
 HoldsNoProof _ = ⊥

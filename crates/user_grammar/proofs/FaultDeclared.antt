@@ -37,7 +37,7 @@ one_variables portions (a_production none a) (a_production also b) = one_variabl
 -- ---- declarations
 
 here_once : (portions : List PlainPortion) (p : PlainPortion) (a b : List Declared) → DeclaresHere portions p a → DeclaresHere portions p b → a ≡ b
-here_once portions (category name forms) a b x y =
+here_once portions (category name mark forms) a b x y =
     x.2 ∙ ap (λ ts. declared_as a_category name ∷ map (declared_as a_variable) ts) (one_variables portions x.1 y.1) ∙ sym y.2
 here_once portions p a b x y = x ∙ sym y
 

@@ -10,16 +10,16 @@ use Rattle.outline_reader.specs.Plain.{PlainPortion}
 use Rattle.user_grammar.specs.File.{categories}
 use Rattle.user_grammar.specs.Fault.{IsFault, HasNoFault, IsFirstFault, IsToldFirst}
 use Rattle.user_grammar.specs.Finding.{IsLeast, IsEarlierOf, Either, OfSome, AtToken}
-use Rattle.user_grammar.specs.FindingPlaces.{ButContexts, IsBadContext, IsTold}
+use Rattle.user_grammar.specs.FindingPlaces.{ButContexts, BadContextOf, IsTold}
 use Rattle.user_grammar.specs.declared.fault_found.Found.{Found}
 use Rattle.user_grammar.proofs.FaultLeast.{least_same, least_of_two}
 use Rattle.user_grammar.proofs.FaultJoined.{of_those, of_context, those_or_context}
 
 -- the earlier of the least of context categories and of the others
 pub least_fault : (portions : List PlainPortion) (a b r : Option Found) → IsEarlierOf a b r → IsLeast (ButContexts portions) a
-    → IsLeast (OfSome (λ w. AtToken code.BadContext (IsBadContext portions w)) (categories portions)) b → IsLeast (IsFault portions) r
+    → IsLeast (OfSome (BadContextOf portions) (categories portions)) b → IsLeast (IsFault portions) r
 least_fault portions a b r is those contexts =
-    let Q : Code → PlainToken → List ℕ → Type 0 = OfSome (λ w. AtToken code.BadContext (IsBadContext portions w)) (categories portions) in
+    let Q : Code → PlainToken → List ℕ → Type 0 = OfSome (BadContextOf portions) (categories portions) in
     least_same (Either (ButContexts portions) Q) (IsFault portions) r
     (λ c t d x. elim x [ inl y ↦ of_those portions c t d y | inr y ↦ of_context portions c t d y ]) (those_or_context portions)
     (least_of_two (ButContexts portions) Q a b r is those contexts)

@@ -8,15 +8,15 @@ use Rattle.proof_lexer.specs.declared.token.Token.{Token}
 use Rattle.outline_reader.specs.Plain.{PlainPortion, plain_form}
 use Rattle.user_grammar.specs.File.{WrittenCategory, assumed, categories}
 use Rattle.user_grammar.specs.Names.{IsAmong}
-use Rattle.user_grammar.specs.Finding.{AtToken, IsFoundAt, IsLeast}
-use Rattle.user_grammar.specs.FindingPlaces.{IsBadContext}
+use Rattle.user_grammar.specs.Finding.{IsLeast}
+use Rattle.user_grammar.specs.FindingPlaces.{IsBadContext, BadContextOf}
 use Rattle.user_grammar.specs.declared.fault_found.Found.{Found}
 use Rattle.sy_base.specs.declared.fault.Code.TheVariants.{BadContext}
 use Rattle.user_grammar.specs.Fault.{Place, IsOutside, IsPlaceBehind, IsWordOf, DeclaresVariable, IsEmptyForm, IsEntryForm, IsOnlyInFront, IsContextCategory}
 use Rattle.user_grammar.specs.FindingContexts.{One, AllPoints, IsInFront, KeepsFront}
 use Rattle.user_grammar.proofs.FaultContexts.{one_exactly, exactly_one}
 use Rattle.user_grammar.proofs.FaultLawsWords.{of_element}
-use Rattle.user_grammar.proofs.FaultLeast.{refused, least_none, least_one}
+use Rattle.user_grammar.proofs.FaultLeast.{refused, least_none, least_named}
 use Rattle.user_grammar.proofs.FaultPoints.{every_point}
 use Rattle.user_grammar.proofs.FaultTokens.{form_split, split_near}
 
@@ -113,15 +113,13 @@ only_by_all portions written r is =
 -- ---- what is found of a category
 
 module _ (portions : List PlainPortion) (written : WrittenCategory) where
-  pub not_assumed : (r : Bool) → (IsTrue r ↔ IsAmong (assumed portions) written.name.text) → r ≡ false → IsLeast (AtToken BadContext (IsBadContext portions written)) None
-  not_assumed r is none =
-      least_none (AtToken BadContext (IsBadContext portions written))
-      (λ o t d x. refused r is none (subst (λ (t : PlainToken). IsAmong (assumed portions) t.text) x.2.named x.2.assumed))
+  pub not_assumed : (r : Bool) → (IsTrue r ↔ IsAmong (assumed portions) written.name.text) → r ≡ false → IsLeast (BadContextOf portions written) None
+  not_assumed r is none = least_none (BadContextOf portions written) (λ o t d x. refused r is none x.2.assumed)
 
-  pub rule_kept : IsContextCategory portions written → IsLeast (AtToken BadContext (IsBadContext portions written)) None
-  rule_kept keeps = least_none (AtToken BadContext (IsBadContext portions written)) (λ o t d x. x.2.breaks keeps)
+  pub rule_kept : IsContextCategory portions written → IsLeast (BadContextOf portions written) None
+  rule_kept keeps = least_none (BadContextOf portions written) (λ o t d x. x.2.breaks keeps)
 
-  pub rule_broken : (f : Found) → IsFoundAt BadContext written.name f → IsAmong (assumed portions) written.name.text → (IsContextCategory portions written → ⊥)
-      → IsLeast (AtToken BadContext (IsBadContext portions written)) (Some f)
-  rule_broken f at among breaks =
-      least_one BadContext (IsBadContext portions written) written.name f at (record { named = refl; assumed = among; breaks = breaks }) (λ s y. y.named)
+  pub rule_broken : (f : Found) → f.code ≡ BadContext → token_view f.token.now ≡ written.mark → f.detail.now ≡ written.name.text
+      → IsAmong (assumed portions) written.name.text → (IsContextCategory portions written → ⊥) → IsLeast (BadContextOf portions written) (Some f)
+  rule_broken f code token detail among breaks =
+      least_named BadContext written.name.text (IsBadContext portions written) written.mark f code token detail (record { marked = refl; assumed = among; breaks = breaks }) (λ s y. y.marked)

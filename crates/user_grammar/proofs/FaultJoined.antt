@@ -8,7 +8,7 @@ use Rattle.outline_reader.specs.Plain.{PlainPortion}
 use Rattle.user_grammar.specs.File.{WrittenCategory, categories}
 use Rattle.user_grammar.specs.Fault.{Place, outside, behind_slot, before_word, behind_word, IsPlaceBehind, IsFault, duplicate, empty_production, single_category, unknown_word, unknown_context, bad_binder, binder_twice, bad_context, IsWrongInBrackets, no_word, no_binder, again, no_comma, not_closed, StandsAt}
 use Rattle.user_grammar.specs.Finding.{AtToken, OfSome, ShortOf, SingleOf, UnknownContexts}
-use Rattle.user_grammar.specs.FindingPlaces.{IsWrongAt, HasCode, unknown, wrong, twice, TokensOf, InProductions, ButContexts, IsBadContext}
+use Rattle.user_grammar.specs.FindingPlaces.{IsWrongAt, HasCode, unknown, wrong, twice, TokensOf, InProductions, ButContexts, BadContextOf}
 use Rattle.user_grammar.proofs.FaultLeast.{any_contained, contained_any}
 use Rattle.user_grammar.proofs.FaultTokens.{split_near}
 
@@ -91,7 +91,7 @@ module _ (portions : List PlainPortion) where
 
   -- a fault is one of those, or one of a context category
   pub those_or_context : (c : Code) (t : PlainToken) (d : List ℕ) → IsFault portions c t d
-      → ButContexts portions c t d ⊎ OfSome (λ w. AtToken code.BadContext (IsBadContext portions w)) (categories portions) c t d
+      → ButContexts portions c t d ⊎ OfSome (BadContextOf portions) (categories portions) c t d
   those_or_context c t d (duplicate e detail is) = inl (inl (e, detail, is))
   those_or_context c t d (empty_production written e detail in_file same empty) = inl (inr (inl (record {
     some = any_contained (λ w. ShortOf portions w c t d) (categories portions) written in_file
@@ -113,10 +113,10 @@ module _ (portions : List PlainPortion) where
       inl (among written form is.stands.stands.front is.stands.stands.rest is.stands.place t c d in_file in_category is.stands.stands.split is.stands.stands.is_place detail
       (twice e is.stands.is_outside is.is_binder is.earlier))
   those_or_context c t d (bad_context written e detail in_file same is breaks) = inr (record {
-    some = any_contained (λ w. AtToken code.BadContext (IsBadContext portions w) c t d) (categories portions) written in_file (e, detail, record { named = same; assumed = is; breaks = breaks });
+    some = any_contained (λ w. BadContextOf portions w c t d) (categories portions) written in_file (e, detail, record { marked = same; assumed = is; breaks = breaks });
   })
 
-  pub of_context : (c : Code) (t : PlainToken) (d : List ℕ) → OfSome (λ w. AtToken code.BadContext (IsBadContext portions w)) (categories portions) c t d → IsFault portions c t d
+  pub of_context : (c : Code) (t : PlainToken) (d : List ℕ) → OfSome (BadContextOf portions) (categories portions) c t d → IsFault portions c t d
   of_context c t d x =
-      let one = contained_any (λ w. AtToken code.BadContext (IsBadContext portions w) c t d) (categories portions) x.some in
-      bad_context one.0 one.2.0 one.2.1 one.1 one.2.2.named one.2.2.assumed one.2.2.breaks
+      let one = contained_any (λ w. BadContextOf portions w c t d) (categories portions) x.some in
+      bad_context one.0 one.2.0 one.2.1 one.1 one.2.2.marked one.2.2.assumed one.2.2.breaks

@@ -22,7 +22,7 @@ named_here P (judgment_of first name form assumes) token all here = (subst (λ (
 named_here P (theorem_of first joined kind name assumes inputs outputs targets) token all here = (subst (λ (o : Option PlainToken). AllByRecursion P (texts_if o)) here all).0
 named_here P (terminals first tokens) token all here = absurd here
 named_here P (syntax_word first) token all here = absurd here
-named_here P (category name forms) token all here = absurd here
+named_here P (category name mark forms) token all here = absurd here
 named_here P (rule_of premises name conclusion) token all here = absurd here
 named_here P (step_of first names forms why) token all here = absurd here
 named_here P (inversion first subject premises name conclusion) token all here = absurd here
@@ -69,4 +69,4 @@ no_signature portions sig found token detail is (bad_binder written form code sa
 no_signature portions sig found token detail is (binder_twice written form code says at among second) =
     nothing_twice portions sig is.written form (read portions sig is written form at among) token second
 no_signature portions sig found token detail is (bad_context written code says at same among broken) =
-    broken (context_kept portions sig is written at (subst (λ (t : PlainToken). IsAmong (assumed portions) t.text) same among))
+    broken (context_kept portions sig is written at among)

@@ -132,7 +132,7 @@ module _ (portions : List PlainPortion) where
     cats = no_categories tokens;
     vars = no_variables_listed tokens;
   })
-  says (category name forms) ds here = subst (Says (category name forms)) (sym here.2) (record {
+  says (category name mark forms) ds here = subst (Says (category name mark forms)) (sym here.2) (record {
     terms = no_terminals here.0;
     cats = ap (λ ts. name.text ∷ ts) (no_names here.0);
     vars = (here.0, [], here.1, variables_alone here.0 ∙ sym (append-nil (map (λ token. token.text) here.0)), refl);

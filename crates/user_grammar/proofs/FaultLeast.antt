@@ -176,6 +176,9 @@ refused r is none p = let never : r ≡ true = is.1 p in cc
 pub second_first : (a b : Code) (s t : PlainToken) (r : Bool) → (IsTrue r ↔ IsToldFirst a s b t) → r ≡ false → IsToldFirst b t a s
 second_first a b s t r is none = other_first s.line (rank a) s.from t.line (rank b) t.from (refused r is none)
 
+told_same : (a b : Code) (s t : PlainToken) → a ≡ b → s ≡ t → IsToldFirst a s b t
+told_same a b s t code token = inr (ap (λ (x : PlainToken). x.line) token, inr (ap rank code, omega (arith, ap (λ (x : PlainToken). x.from) token)))
+
 -- the only token that is so
 pub least_one : (c : Code) (P : PlainToken → Type 0) (t : PlainToken) (f : Found) → IsFoundAt c t f → P t → ((s : PlainToken) → P s → s ≡ t) → IsLeast (AtToken c P) (Some f)
 least_one c P t f found is only = record {
@@ -184,9 +187,16 @@ least_one c P t f found is only = record {
     first = λ o s w x. told_same f.code o (token_view f.token.now) s (found.code_is ∙ sym x.0) (found.token_is ∙ sym (only s x.2));
   };
 }
-  where
-    told_same : (a b : Code) (s t : PlainToken) → a ≡ b → s ≡ t → IsToldFirst a s b t
-    told_same a b s t code token = inr (ap (λ (x : PlainToken). x.line) token, inr (ap rank code, omega (arith, ap (λ (x : PlainToken). x.from) token)))
+
+-- the only token that is so, where another name is told
+pub least_named : (c : Code) (name : List ℕ) (P : PlainToken → Type 0) (t : PlainToken) (f : Found) → f.code ≡ c → token_view f.token.now ≡ t → f.detail.now ≡ name → P t
+    → ((s : PlainToken) → P s → s ≡ t) → IsLeast (λ o s d. (o ≡ c) × (d ≡ name) × P s) (Some f)
+least_named c name P t f code token detail is only = record {
+  least = record {
+    stands = (code, detail, subst P (sym token) is);
+    first = λ o s w x. told_same f.code o (token_view f.token.now) s (code ∙ sym x.0) (token ∙ sym (only s x.2));
+  };
+}
 
 -- one token more is so
 pub least_token_more : (c : Code) (P Q : PlainToken → Type 0) (t : PlainToken) (f : Found) (a r : Option Found)

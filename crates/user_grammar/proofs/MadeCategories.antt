@@ -10,6 +10,7 @@ use Rattle.user_grammar.specs.File.{WrittenCategory, listed, categories, assumed
 use Rattle.user_grammar.specs.Names.{IsAmong, category_names}
 use Rattle.user_grammar.specs.Production.{IsVariable}
 use Rattle.user_grammar.specs.Grammar.{IsCategory, AreForms, no_forms, variable, production, AreProductions, IsWritten}
+use Rattle.user_grammar.specs.Indexed.{HaveSame}
 use Rattle.user_grammar.specs.MadeItems.{IsFirstVariable, IsMadeCategory}
 
 -- a mark is one where it is so by the same fact
@@ -55,6 +56,24 @@ first_of_forms {cats = cats} {listed = listed} also no_forms first = no_first (c
 first_of_forms {cats = cats} {listed = listed} also (variable {token = token} {forms = rest} is more) first = this_variable (category_names cats) listed token rest also is first
 first_of_forms {cats = cats} {listed = listed} also (production {form = form} {forms = rest} not made more) first =
     first_of_forms also more (later_variable (category_names cats) listed form rest also not first)
+
+-- the same names are assumed
+pub made_same : (names listed one other : List (List ℕ)) → HaveSame one other → (written : List WrittenCategory) (cats : List Cat)
+    → AllZip (IsMadeCategory names listed one) written cats → AllZip (IsMadeCategory names listed other) written cats
+made_same names listed one other same [] [] made = tt
+made_same names listed one other same [] (cat ∷ cats) made = absurd made
+made_same names listed one other same (w ∷ written) [] made = absurd made
+made_same names listed one other same (w ∷ written) (cat ∷ cats) made = (
+  record {
+    category = record {
+      name = made.0.category.name;
+      context =
+          (λ holds. (same cat.name).0 (made.0.category.context.0 holds), λ among. made.0.category.context.1 ((same cat.name).1 among));
+    };
+    variable = made.0.variable;
+  },
+  made_same names listed one other same written cats made.1,
+)
 
 made_once : (names listed assumed : List (List ℕ)) (w : WrittenCategory) (cat other : Cat) → IsMadeCategory names listed assumed w cat → IsCategory assumed w other
     → cat.var ≡ other.var → cat ≡ other

@@ -252,7 +252,7 @@ collected portions no_fault (v ∷ some) there refuse = by_case (among_decided (
         → ((AllByRecursion (λ u. IsAmong (assumed_texts portions) u.name.text → IsContextCategory portions u) some → ⊥) → ⊥) → ⊥
     by_case (inr not) rest = rest (λ all. refuse ((λ among. absurd (not among)), all))
     by_case (inl among) rest =
-        no_fault code.BadContext v.name v.name.text (bad_context v refl refl there.0 refl among (λ context. rest (λ all. refuse ((λ is. context), all))))
+        no_fault code.BadContext v.mark v.name.text (bad_context v refl refl there.0 refl among (λ context. rest (λ all. refuse ((λ is. context), all))))
 
 pub contexts_stand : (portions : List PlainPortion) → HasNoFault portions → (AreContexts portions (assumed_texts portions) → ⊥) → ⊥
 contexts_stand portions no_fault refuse =

@@ -114,7 +114,7 @@ module _ (portions : List PlainPortion) where
 
   declares : (portion : PlainPortion) → (ds : List Declared) × DeclaresHere portions portion ds
   declares (terminals first tokens) = (map (declared_as a_terminal) tokens, refl)
-  declares (category name forms) =
+  declares (category name mark forms) =
       let vars = variables_there forms in (declared_as a_category name ∷ map (declared_as a_variable) vars.0, (vars.0, vars.1, refl))
   declares _ = ([], refl)
 

@@ -85,8 +85,8 @@ module _ (portions : List PlainPortion) (assumed : List (List ℕ)) where
         all_joined L (map (λ token. token.text) tokens) (listed rest)
             (of_terminals N L tokens (all_left (HoldsOf N L) (map (declared_as a_terminal) tokens) declare.1 here)) more.1,
       )
-  told N L (category name forms ∷ rest) ds [] declare zip all = absurd zip
-  told N L (category name forms ∷ rest) ds (cat ∷ cats) declare zip all =
+  told N L (category name mark forms ∷ rest) ds [] declare zip all = absurd zip
+  told N L (category name mark forms ∷ rest) ds (cat ∷ cats) declare zip all =
       let vars = declare.3.0 in
       let here = subst (AllByRecursion (HoldsOf N L)) (declare.2 ∙ ap (λ (hs : List Declared). hs ++ declare.1) declare.3.2) all in
       let more = told N L rest declare.1 cats declare.4 zip.1 (all_right (HoldsOf N L) (map (declared_as a_variable) vars) declare.1 here.1) in (
@@ -183,8 +183,8 @@ module _ (portions : List PlainPortion) (assumed : List (List ℕ)) where
       let clear = are_clear rest declare.1 cats declare.4 zip (differ_left (map (declared_as a_terminal) tokens) declare.1 here) in
       let found = terminals_clear rest declare.1 cats tokens declare.4 zip clear here in
       record { apart = clear.apart; no_spellings = found.0; different = found.1 }
-  are_clear (category name forms ∷ rest) ds [] declare zip differ = absurd zip
-  are_clear (category name forms ∷ rest) ds (cat ∷ cats) declare zip differ =
+  are_clear (category name mark forms ∷ rest) ds [] declare zip differ = absurd zip
+  are_clear (category name mark forms ∷ rest) ds (cat ∷ cats) declare zip differ =
       let vars = declare.3.0 in
       let here = subst AllDeclaredDiffer (declare.2 ∙ ap (λ (hs : List Declared). hs ++ declare.1) declare.3.2) differ in
       let clear = are_clear rest declare.1 cats declare.4 zip.1 (differ_left (map (declared_as a_variable) vars) declare.1 here.1) in

@@ -79,11 +79,15 @@ module _ (portions : List PlainPortion) where
     a_production : {form : List PlainToken} {forms : List (List PlainToken)} {tokens : List PlainToken} →
         (DeclaresVariable form → ⊥) → AreVariables forms tokens → AreVariables (form ∷ forms) tokens
 
+  -- what a category with this name and these forms declares, in text order
+  abbrev pub CategoryDeclares : PlainToken → List (List PlainToken) → List Declared → Type 0
+  CategoryDeclares name forms ds =
+      (tokens : List PlainToken) × AreVariables forms tokens × (ds ≡ declared_as a_category name ∷ map (declared_as a_variable) tokens)
+
   -- what a portion declares, in text order
   abbrev pub DeclaresHere : PlainPortion → List Declared → Type 0
   DeclaresHere (terminals first tokens) ds = ds ≡ map (declared_as a_terminal) tokens
-  DeclaresHere (category name forms) ds =
-      (tokens : List PlainToken) × AreVariables forms tokens × (ds ≡ declared_as a_category name ∷ map (declared_as a_variable) tokens)
+  DeclaresHere (category name mark forms) ds = CategoryDeclares name forms ds
   DeclaresHere _ ds = ds ≡ []
 
   -- what these portions declare, in text order
@@ -227,8 +231,8 @@ module _ (portions : List PlainPortion) where
         Contains (categories portions) written → Contains written.forms form → IsWrongInBrackets form token → IsFault found token detail
     binder_twice : (written : WrittenCategory) (form : List PlainToken) → found ≡ code.BinderTwice → detail ≡ token.text →
         Contains (categories portions) written → Contains written.forms form → IsSecondBinder form token → IsFault found token detail
-    bad_context : (written : WrittenCategory) → found ≡ code.BadContext → detail ≡ token.text →
-        Contains (categories portions) written → token ≡ written.name → IsAmong (assumed portions) token.text → (IsContextCategory written → ⊥) →
+    bad_context : (written : WrittenCategory) → found ≡ code.BadContext → detail ≡ written.name.text →
+        Contains (categories portions) written → token ≡ written.mark → IsAmong (assumed portions) written.name.text → (IsContextCategory written → ⊥) →
         IsFault found token detail
 
   -- the grammar has no fault

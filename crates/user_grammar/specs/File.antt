@@ -4,9 +4,10 @@ use Rattle.std.specs.Prelude.{List, [], ◌∷◌, ℕ, Option, None, Some, map,
 use Rattle.sy_base.specs.Tokens.{PlainToken}
 use Rattle.outline_reader.specs.Plain.{PlainPortion, terminals, category, judgment_of, theorem_of}
 
--- a category as it is written: its name, and the form of each production
+-- a category as it is written: its name, its `::=`, and the form of each production
 pub record WrittenCategory : Type 0 where
   pub name : PlainToken
+  pub mark : PlainToken
   pub forms : List (List PlainToken)
 
 abbrev pub texts_if : Option PlainToken → List (List ℕ)
@@ -20,7 +21,7 @@ listed_in _ = []
 
 -- the category that a portion is
 abbrev pub category_in : PlainPortion → List WrittenCategory
-category_in (category name forms) = record { name = name; forms = forms } ∷ []
+category_in (category name mark forms) = record { name = name; mark = mark; forms = forms } ∷ []
 category_in _ = []
 
 -- the name that a portion has behind `assumes`

@@ -62,15 +62,16 @@ Either one other found token detail = one found token detail ⊎ other found tok
 
 -- a category as the portions lend it
 abbrev pub written_view : Written → WrittenCategory
-written_view written = record { name = token_view written.name.now; forms = map plain_form (map (λ form. form.now) written.forms.now) }
+written_view written = record { name = token_view written.name.now; mark = token_view written.mark.now; forms = map plain_form (map (λ form. form.now) written.forms.now) }
 
 -- the portions of the file
 abbrev pub portions_of : Lists → List PlainPortion
 portions_of lists = plains lists.portions.now
 
--- these are the categories and the listed terminals of the portions
+-- these are the categories, their names and the listed terminals of the portions
 pub record AreLists (lists : Lists) : Type 0 where
   pub categories : map written_view lists.categories.now ≡ categories (portions_of lists)
+  pub named : HaveSame (names_in lists.names.now) (category_texts (portions_of lists))
   pub listed : HaveSame (names_in lists.listed.now) (listed (portions_of lists))
 
 -- one code stands at a token that is so, with the token's text

@@ -74,11 +74,15 @@ ButContexts portions =
     Either (AtToken code.Duplicate (IsDuplicate portions))
     (Either (OfSome (ShortOf portions) (categories portions)) (Either (InProductions portions) (OfSome (UnknownContexts portions) portions)))
 
--- a category that is assumed and breaks the rule on context categories, by its name
+-- a category that is assumed and breaks the rule on context categories, by its `::=`
 pub record IsBadContext (portions : List PlainPortion) (written : WrittenCategory) (token : PlainToken) : Type 0 where
-  pub named : token ≡ written.name
-  pub assumed : IsAmong (assumed portions) token.text
+  pub marked : token ≡ written.mark
+  pub assumed : IsAmong (assumed portions) written.name.text
   pub breaks : IsContextCategory portions written → ⊥
+
+-- the fault of such a category, which has its name
+abbrev pub BadContextOf : List PlainPortion → WrittenCategory → Code → PlainToken → List ℕ → Type 0
+BadContextOf portions written found token detail = (found ≡ code.BadContext) × (detail ≡ written.name.text) × IsBadContext portions written token
 
 -- what is told of a fault that was found
 abbrev pub IsTold : Option Found → Option Fault → Type 0

@@ -17,6 +17,9 @@ symbol text = token 1 text
 abbrev pub mark : List ℕ → PlainToken
 mark text = token 2 text
 
+abbrev pub definition : PlainToken
+definition = symbol (codes "::=")
+
 abbrev pub function : List PlainToken
 function =
     word (codes "fn") ∷ word (codes "x") ∷ symbol (codes ":") ∷ word (codes "T") ∷ symbol (codes "=>") ∷ word (codes "t")
@@ -29,9 +32,9 @@ abbrev pub lambda_file : List PlainPortion
 lambda_file =
     terminals (word (codes "terminals")) (word (codes "fn") ∷ word (codes "unit") ∷ word (codes "value") ∷ [])
     ∷ syntax_word (word (codes "syntax"))
-    ∷ category (word (codes "T")) ((word (codes "unit") ∷ []) ∷ (word (codes "T") ∷ symbol (codes "->") ∷ word (codes "T") ∷ []) ∷ [])
-    ∷ category (word (codes "t")) (function ∷ (word (codes "t") ∷ word (codes "t") ∷ []) ∷ (word (codes "x") ∷ []) ∷ (word (codes "unit") ∷ []) ∷ [])
-    ∷ category (word (codes "Gamma")) ((symbol (codes "*") ∷ []) ∷ longer_context ∷ [])
+    ∷ category (word (codes "T")) definition ((word (codes "unit") ∷ []) ∷ (word (codes "T") ∷ symbol (codes "->") ∷ word (codes "T") ∷ []) ∷ [])
+    ∷ category (word (codes "t")) definition (function ∷ (word (codes "t") ∷ word (codes "t") ∷ []) ∷ (word (codes "x") ∷ []) ∷ (word (codes "unit") ∷ []) ∷ [])
+    ∷ category (word (codes "Gamma")) definition ((symbol (codes "*") ∷ []) ∷ longer_context ∷ [])
     ∷ judgment_of (word (codes "judgment")) (word (codes "typing"))
     (word (codes "Gamma") ∷ symbol (codes "|-") ∷ word (codes "t") ∷ symbol (codes ":") ∷ word (codes "T") ∷ []) (Some (word (codes "Gamma")))
     ∷ []

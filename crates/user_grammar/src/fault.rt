@@ -1,7 +1,7 @@
 // The first fault of the grammar of a file.
 ghost use Rattle.std.specs.Prelude.{◌≡◌, IfOk, MatchOption, map};
 ghost use Rattle.user_grammar.specs.File.{categories, listed};
-ghost use Rattle.user_grammar.specs.Fault.{HasNoFault, IsFault, IsFirstFault};
+ghost use Rattle.user_grammar.specs.Fault.{HasNoFault, IsFault, IsFirstFault, category_texts};
 ghost use Rattle.user_grammar.specs.Finding.{AreLists, AreNames, IsLeast, portions_of, written_view};
 ghost use Rattle.user_grammar.specs.Indexed.{HaveSame, names_in};
 ghost use Rattle.user_grammar.specs.Made.{plains};
@@ -15,8 +15,9 @@ use crate::fault_front::first_bad_context;
 use crate::fault_lists::{Lists, Written, lent_categories};
 use crate::fault_names::{Names, all_variables};
 use crate::fault_tokens::first_at_token;
-use crate::name_index::{NameIndex, indexed};
-use crate::portions::{copied, listed};
+use crate::name_index::NameIndex;
+use crate::name_lists::{category_index, listed_index};
+use crate::portions::copied;
 use binding_terms::NoMemory;
 use outline_reader::Portion;
 use std::alloc::Global;
@@ -76,14 +77,16 @@ fn first_by_lists(alloc: Global, lists: &Lists<'_>) -> Result<Option<Fault>, NoM
     Ok(fault)
 }
 
-/// The first fault by the categories and the listed terminals of the portions.
+/// The first fault by the categories, their names and the listed terminals of the portions.
 fn first_by_parts(
     alloc: Global,
     portions: &[Portion<'_>],
     written: &[Written<'_>],
+    names: &NameIndex<'_>,
     terminals: &NameIndex<'_>,
 ) -> Result<Option<Fault>, NoMemory>
     requires written { map written_view written.now ≡ categories (plains portions.now) }
+    requires names { HaveSame (names_in names.now) (category_texts (plains portions.now)) }
     requires terminals { HaveSame (names_in terminals.now) (listed (plains portions.now)) }
     ensures { IfOk result (λ found. MatchOption found (HasNoFault (plains portions.now))
         (λ fault. IsFirstFault (plains portions.now) fault.line fault.code fault.detail)) }
@@ -91,6 +94,7 @@ fn first_by_parts(
     let lists = Lists {
         portions,
         categories: written,
+        names,
         listed: terminals,
     };
     first_by_lists(alloc, &lists)
@@ -102,7 +106,7 @@ pub fn first_fault(alloc: Global, portions: &[Portion<'_>]) -> Result<Option<Fau
         (λ fault. IsFirstFault (plains portions.now) fault.line fault.code fault.detail)) }
 {
     let written = lent_categories(alloc, portions)?;
-    let texts = listed(alloc, portions)?;
-    let terminals = indexed(alloc, texts.as_slice())?;
-    first_by_parts(alloc, portions, written.as_slice(), &terminals)
+    let names = category_index(alloc, portions)?;
+    let terminals = listed_index(alloc, portions)?;
+    first_by_parts(alloc, portions, written.as_slice(), &names, &terminals)
 }

@@ -1,15 +1,15 @@
 // Names behind `assumes` that are no categories.
-ghost use Rattle.std.specs.Prelude.{◌≡◌, ◌↔◌, IsTrue, map, option_map};
+ghost use Rattle.std.specs.Prelude.{◌≡◌, ◌↔◌, IsTrue, option_map};
 ghost use Rattle.proof_lexer.specs.View.{token_view};
 ghost use Rattle.outline_reader.specs.Plain.{plain_portion};
 ghost use Rattle.outline_reader.specs.Views.{portion_view};
 ghost use Rattle.user_grammar.specs.Fault.{category_texts};
 ghost use Rattle.user_grammar.specs.Names.{IsAmong};
-ghost use Rattle.user_grammar.specs.Finding.{AreLists, IsLeast, OfSome, UnknownContexts, assumed_token, portions_of, written_view};
+ghost use Rattle.user_grammar.specs.Finding.{AreLists, IsLeast, OfSome, UnknownContexts, assumed_token, portions_of};
 
 use crate::fault_found::{Found, at_token, earlier};
-use crate::fault_lists::{Lists, Written};
-use crate::names::is_same;
+use crate::fault_lists::Lists;
+use crate::name_index::has_name;
 use outline_reader::{Name, Portion};
 use sy_base::Code;
 
@@ -24,23 +24,12 @@ fn assumed_of<'a>(portion: &'a Portion<'a>) -> Option<Name<'a>>
     }
 }
 
-fn is_name_of(categories: &[Written<'_>], word: &[u8]) -> bool
-    ensures { IsTrue result ↔ IsAmong (map (λ written. written.name.text) (map written_view categories.now)) word.now }
-{
-    for written in categories {
-        if is_same(written.name.text.as_bytes(), word) {
-            return true;
-        }
-    }
-    false
-}
-
 /// Whether a word is the name of a category.
 pub fn is_category(lists: &Lists<'_>, word: &[u8]) -> bool
     requires { AreLists lists.now }
     ensures { IsTrue result ↔ IsAmong (category_texts (portions_of lists.now)) word.now }
 {
-    is_name_of(lists.categories, word)
+    has_name(lists.names, word)
 }
 
 fn unknown_context<'a>(lists: &Lists<'_>, portion: &'a Portion<'a>) -> Option<Found<'a>>

@@ -3,10 +3,10 @@ ghost use Rattle.std.specs.Prelude.{◌≡◌, ◌↔◌, ◌++◌, ◌∷◌, [
 ghost use Rattle.binding_terms.specs.Numbered.{AnyByRecursion};
 ghost use Rattle.sy_base.specs.declared.fault.Code.TheVariants.{Duplicate};
 ghost use Rattle.proof_lexer.specs.View.{token_view};
-ghost use Rattle.outline_reader.specs.Plain.{category, plain_form, plain_portion};
+ghost use Rattle.outline_reader.specs.Plain.{plain_form, plain_portion};
 ghost use Rattle.outline_reader.specs.Views.{portion_view};
 ghost use Rattle.user_grammar.specs.File.{categories};
-ghost use Rattle.user_grammar.specs.Fault.{Declared, DeclareAll, DeclaresHere, IsDuplicate, IsSpelledAs, a_terminal, a_variable, declared_as};
+ghost use Rattle.user_grammar.specs.Fault.{CategoryDeclares, Declared, DeclareAll, DeclaresHere, IsDuplicate, IsSpelledAs, a_terminal, a_variable, declared_as};
 ghost use Rattle.user_grammar.specs.declared.fault_declared.Means.TheVariants.{Terminal};
 ghost use Rattle.user_grammar.specs.Finding.{
   AreLists,
@@ -88,7 +88,7 @@ fn declare_category<'a>(
 ) -> Result<(), NoMemory>
     requires { AreLists lists.now }
     ensures { OnOk result ((own : List Declared) × (map declaration_view all.new.items ≡ map declaration_view all.old.items ++ own)
-        × DeclaresHere (portions_of lists.now) (category (token_view name.now) (map plain_form (map (λ form. form.now) forms.now))) own) }
+        × CategoryDeclares (portions_of lists.now) (token_view name.now) (map plain_form (map (λ form. form.now) forms.now)) own) }
 {
     let own = variables(alloc, lists, forms)?;
     all.push(Declaration {
@@ -110,9 +110,11 @@ fn declare<'a>(
 {
     match portion {
         Portion::Terminals { items, .. } => declare_tokens(items, all),
-        Portion::Category { name, productions } => {
-            declare_category(alloc, lists, name, productions.as_slice(), all)
-        }
+        Portion::Category {
+            name,
+            productions,
+            ..
+        } => { declare_category(alloc, lists, name, productions.as_slice(), all) }
         _ => Ok(()),
     }
 }
@@ -198,7 +200,7 @@ fn has_common(seen: &Seen<'_>, before: &[Declaration<'_>], declaration: &Declara
 /// The first word with a common spelling, where one more word is declared.
 fn common_found<'a>(
     seen: &Seen<'_>,
-    before: &[Declaration<'_>],
+    before: &[Declaration<'a>],
     declaration: &Declaration<'a>,
     found: Option<Found<'a>>,
 ) -> Option<Found<'a>>

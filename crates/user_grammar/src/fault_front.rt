@@ -2,22 +2,22 @@
 ghost use Rattle.std.specs.Prelude.{◌≡◌, ◌↔◌, List, IsTrue, IfOk, length, map};
 ghost use Rattle.std.specs.List.{AllByRecursion};
 ghost use Rattle.sy_base.specs.Tokens.{PlainToken};
-ghost use Rattle.sy_base.specs.declared.fault.Code.TheVariants.{BadContext};
 ghost use Rattle.proof_lexer.specs.View.{token_view};
 ghost use Rattle.outline_reader.specs.Plain.{PlainPortion, plain_form};
 ghost use Rattle.user_grammar.specs.Fault.{IsContextCategory, IsOnlyInFront};
 ghost use Rattle.user_grammar.specs.File.{assumed, categories};
-ghost use Rattle.user_grammar.specs.Finding.{AreLists, AreNames, AtToken, IsLeast, OfSome, portions_of, written_view};
+ghost use Rattle.user_grammar.specs.Finding.{AreLists, AreNames, IsLeast, OfSome, portions_of, written_view};
+ghost use Rattle.user_grammar.specs.Indexed.{HaveSame, names_in};
 ghost use Rattle.user_grammar.specs.FindingContexts.{AllPoints, IsInFront, KeepsFront};
-ghost use Rattle.user_grammar.specs.FindingPlaces.{IsBadContext, walk_view};
+ghost use Rattle.user_grammar.specs.FindingPlaces.{BadContextOf, walk_view};
 
 use crate::fault_context::{are_entries, is_word_of, none_declares, one_empty};
-use crate::fault_found::{Found, at_token, earlier};
+use crate::fault_found::{Found, earlier};
 use crate::fault_lists::{Lists, Written};
 use crate::fault_names::Names;
 use crate::fault_place::{Walk, is_outside, pass, start};
-use crate::made_productions::assumed_texts;
-use crate::made_tokens::is_among;
+use crate::name_index::{NameIndex, has_name};
+use crate::name_lists::assumed_index;
 use crate::names::is_same;
 use binding_terms::NoMemory;
 use outline_reader::Form;
@@ -152,21 +152,25 @@ fn keeps_the_rule(alloc: Global, names: &Names<'_>, written: &Written<'_>) -> Re
 fn bad_context<'a>(
     alloc: Global,
     names: &Names<'_>,
-    contexts: &[&[u8]],
+    contexts: &NameIndex<'_>,
     written: &Written<'a>,
 ) -> Result<Option<Found<'a>>, NoMemory>
     requires names { AreNames names.now }
-    requires contexts { map (λ text. text.now) contexts.now ≡ assumed (portions_of names.now.lists) }
-    ensures { IfOk result (IsLeast (AtToken BadContext (IsBadContext (portions_of names.now.lists) (written_view written.now)))) }
+    requires contexts { HaveSame (names_in contexts.now) (assumed (portions_of names.now.lists)) }
+    ensures { IfOk result (IsLeast (BadContextOf (portions_of names.now.lists) (written_view written.now))) }
 {
-    if !is_among(contexts, written.name.text.as_bytes()) {
+    if !has_name(contexts, written.name.text.as_bytes()) {
         return Ok(None);
     }
     let keeps = keeps_the_rule(alloc, names, written)?;
     if keeps {
         return Ok(None);
     }
-    Ok(Some(at_token(Code::BadContext, written.name)))
+    Ok(Some(Found {
+        code: Code::BadContext,
+        token: written.mark,
+        detail: written.name.text,
+    }))
 }
 
 /// The first category that is assumed and breaks the rule.
@@ -175,13 +179,12 @@ pub fn first_bad_context<'a>(
     names: &Names<'a>,
 ) -> Result<Option<Found<'a>>, NoMemory>
     requires { AreNames names.now }
-    ensures { IfOk result (IsLeast (OfSome (λ written. AtToken BadContext (IsBadContext (portions_of names.now.lists) written))
-        (categories (portions_of names.now.lists)))) }
+    ensures { IfOk result (IsLeast (OfSome (BadContextOf (portions_of names.now.lists)) (categories (portions_of names.now.lists)))) }
 {
-    let contexts = assumed_texts(alloc, names.lists.portions)?;
+    let contexts = assumed_index(alloc, names.lists.portions)?;
     let mut found = None;
     for written in names.lists.categories {
-        let one = bad_context(alloc, names, contexts.as_slice(), written)?;
+        let one = bad_context(alloc, names, &contexts, written)?;
         found = earlier(found, one);
     }
     Ok(found)

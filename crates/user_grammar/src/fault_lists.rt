@@ -11,18 +11,20 @@ use binding_terms::NoMemory;
 use outline_reader::{Form, Name, Portion};
 use std::alloc::Global;
 
-/// A category: its name, and the form of each production.
+/// A category: its name, its `::=`, and the form of each production.
 #[derive(Clone, Copy)]
 pub struct Written<'a> {
     pub name: Name<'a>,
+    pub mark: Name<'a>,
     pub forms: &'a [Form<'a>],
 }
 
-/// The portions of a file, its categories, and the terminals that it lists.
+/// The portions of a file, its categories and their names, and the terminals that it lists.
 #[derive(Clone, Copy)]
 pub struct Lists<'a> {
     pub portions: &'a [Portion<'a>],
     pub categories: &'a [Written<'a>],
+    pub names: &'a NameIndex<'a>,
     pub listed: &'a NameIndex<'a>,
 }
 
@@ -31,9 +33,14 @@ fn add_written<'p>(portion: &'p Portion<'_>, all: &mut Vec<Written<'p>>) -> Resu
         ≡ map written_view all.old.items ++ category_in (plain_portion (portion_view portion.now))) }
 {
     match portion {
-        Portion::Category { name, productions } => {
+        Portion::Category {
+            name,
+            mark,
+            productions,
+        } => {
             all.push(Written {
                 name,
+                mark,
                 forms: productions.as_slice(),
             })?;
             Ok(())

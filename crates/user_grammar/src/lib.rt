@@ -18,6 +18,7 @@ mod made_forms;
 mod made_productions;
 mod made_tokens;
 mod name_index;
+mod name_lists;
 mod names;
 mod phase;
 mod portions;

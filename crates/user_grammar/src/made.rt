@@ -8,8 +8,9 @@ ghost use Rattle.user_grammar.specs.Grammar.{IsSignatureOf, IsWritten};
 ghost use Rattle.user_grammar.specs.Indexed.{names_in};
 ghost use Rattle.user_grammar.specs.Made.{plains};
 
-use crate::made_productions::{assumed_texts, category_texts, made_categories, made_productions};
+use crate::made_productions::{category_texts, made_categories, made_productions};
 use crate::name_index::{NameIndex, indexed};
+use crate::name_lists::assumed_index;
 use crate::portions::listed;
 use binding_terms::{Cat, NoMemory, Prod, Sig};
 use outline_reader::{Outline, Portion};
@@ -35,8 +36,8 @@ fn written_categories(
     ensures few { IfOk result (λ cats. length cats.items < 2 ^ 32) }
     ensures are { IfOk result (λ cats. (sig : Signature) → IsWritten (plains portions.now) sig → cats.items ≡ sig.cats) }
 {
-    let assumed = assumed_texts(alloc, portions)?;
-    let cats = made_categories(alloc, names, texts, assumed.as_slice(), portions)?;
+    let assumed = assumed_index(alloc, portions)?;
+    let cats = made_categories(alloc, names, texts, &assumed, portions)?;
     if cats.len() > u32::MAX as usize {
         return Err(NoMemory);
     }

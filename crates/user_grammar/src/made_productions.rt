@@ -15,8 +15,8 @@ ghost use Rattle.user_grammar.specs.MadeItems.{IsFirstVariable, IsMadeCategory};
 ghost use Rattle.user_grammar.specs.Names.{AllApart, IsAmong, category_names, names};
 
 use crate::made_forms::production;
-use crate::made_tokens::{is_among, is_variable, lone_variable};
-use crate::name_index::NameIndex;
+use crate::made_tokens::{is_variable, lone_variable};
+use crate::name_index::{NameIndex, has_name};
 use crate::portions::copied;
 use binding_terms::{Cat, CatId, NoMemory, Prod, Text};
 use outline_reader::{Form, Name, Portion};
@@ -108,18 +108,18 @@ fn made_category(
     alloc: Global,
     names: &[&[u8]],
     listed: &NameIndex<'_>,
-    assumed: &[&[u8]],
+    assumed: &NameIndex<'_>,
     name: &Token<'_>,
     forms: &[Form<'_>],
 ) -> Result<Cat, NoMemory>
-    ensures { IfOk result (λ cat. IsMadeCategory (map (λ name. name.now) names.now) (names_in listed.now)
-        (map (λ text. text.now) assumed.now)
-        (record { name = token_view name.now; forms = map plain_form (map (λ form. form.now) forms.now) }) cat) }
+    ensures { IfOk result (λ cat. (mark : PlainToken) → IsMadeCategory (map (λ name. name.now) names.now) (names_in listed.now)
+        (names_in assumed.now)
+        (record { name = token_view name.now; mark = mark; forms = map plain_form (map (λ form. form.now) forms.now) }) cat) }
 {
     Ok(Cat {
         name: copied(alloc, name.text)?,
         var: variable(alloc, names, listed, forms)?,
-        context: is_among(assumed, name.text.as_bytes()),
+        context: has_name(assumed, name.text.as_bytes()),
     })
 }
 
@@ -127,16 +127,20 @@ fn add_made_category(
     alloc: Global,
     names: &[&[u8]],
     listed: &NameIndex<'_>,
-    assumed: &[&[u8]],
+    assumed: &NameIndex<'_>,
     portion: &Portion<'_>,
     cats: &mut Vec<Cat>,
 ) -> Result<(), NoMemory>
     ensures { OnOk result ((own : List Cat) × (cats.new.items ≡ cats.old.items ++ own)
         × AllZip (IsMadeCategory (map (λ name. name.now) names.now) (names_in listed.now)
-        (map (λ text. text.now) assumed.now)) (category_in (plain_portion (portion_view portion.now))) own) }
+        (names_in assumed.now)) (category_in (plain_portion (portion_view portion.now))) own) }
 {
     match portion {
-        Portion::Category { name, productions } => {
+        Portion::Category {
+            name,
+            productions,
+            ..
+        } => {
             let forms = productions.as_slice();
             cats.push(made_category(alloc, names, listed, assumed, name, forms)?)?;
             Ok(())
@@ -150,11 +154,11 @@ pub fn made_categories(
     alloc: Global,
     names: &[&[u8]],
     listed: &NameIndex<'_>,
-    assumed: &[&[u8]],
+    assumed: &NameIndex<'_>,
     portions: &[Portion<'_>],
 ) -> Result<Vec<Cat>, NoMemory>
     ensures { IfOk result (λ cats. AllZip (IsMadeCategory (map (λ name. name.now) names.now)
-        (names_in listed.now) (map (λ text. text.now) assumed.now)) (categories (plains portions.now)) cats.items) }
+        (names_in listed.now) (names_in assumed.now)) (categories (plains portions.now)) cats.items) }
 {
     let mut cats = Vec::new(alloc);
     for portion in portions {

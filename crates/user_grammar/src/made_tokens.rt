@@ -5,11 +5,11 @@ ghost use Rattle.rule_schemes.specs.Reading.{IsSpelling};
 ghost use Rattle.outline_reader.specs.Plain.{plain_form};
 ghost use Rattle.user_grammar.specs.Indexed.{names_in};
 ghost use Rattle.user_grammar.specs.MadeItems.{IsBinderSpelling, Means, WordMeans};
-ghost use Rattle.user_grammar.specs.Names.{IsAmong, IsCategoryWord, IsNoSpelling, category_names, names, variable_names};
+ghost use Rattle.user_grammar.specs.Names.{IsCategoryWord, IsNoSpelling, category_names, names, variable_names};
 ghost use Rattle.user_grammar.specs.Production.{IsMark, IsVariable};
 
 use crate::name_index::{NameIndex, has_name};
-use crate::names::{category_of, is_same};
+use crate::names::category_of;
 use crate::spelling::is_spelling;
 use binding_terms::{Cat, CatId};
 use proof_lexer::{Kind, Token, is_numeral};
@@ -91,17 +91,6 @@ pub fn is_mark(code: u8, token: &Token<'_>) -> bool
     ensures { IsTrue result ↔ IsMark code (token_view token.now) }
 {
     token.kind == Kind::Punct && token.text.as_bytes() == [code].as_slice()
-}
-
-pub fn is_among(texts: &[&[u8]], word: &[u8]) -> bool
-    ensures { IsTrue result ↔ IsAmong (map (λ text. text.now) texts.now) word.now }
-{
-    for text in texts {
-        if is_same(text, word) {
-            return true;
-        }
-    }
-    false
 }
 
 fn spells_none(names: &[&[u8]], word: &[u8]) -> bool

@@ -1,18 +1,16 @@
 use Rattle.std.proofs.Common.{map, subst}
-use Rattle.sy_base.specs.declared.fault.Code.TheVariants.{BadContext}
-use Rattle.user_grammar.specs.File.{WrittenCategory}
-use Rattle.user_grammar.specs.Finding.{AtToken, IsLeast, OfSome, portions_of, written_view}
-use Rattle.user_grammar.specs.FindingPlaces.{IsBadContext}
+use Rattle.user_grammar.specs.Finding.{IsLeast, OfSome, portions_of, written_view}
+use Rattle.user_grammar.specs.FindingPlaces.{BadContextOf}
 use Rattle.user_grammar.proofs.FaultLeast.{whole, least_more}
 use Rattle.user_grammar.proofs.fault_front.first_bad_context.Goals as goal
 
 pub loop-written-preserved : goal.loop-written-preserved
 loop-written-preserved c =
-    least_more written_view (λ (w : WrittenCategory). AtToken BadContext (IsBadContext (portions_of c.args.names.now.lists) w)) c.args.names.now.lists.categories.now c.loop-written.written-index _
+    least_more written_view (BadContextOf (portions_of c.args.names.now.lists)) c.args.names.now.lists.categories.now c.loop-written.written-index _
     c.loop-written.found c.in_ok-one.one c.earlier-found.result c.loop-written-test.true c.earlier-found.ensures c.loop-written.invariant c.in_ok-one.ensures
 
 pub returns : goal.returns
 returns c =
-    let P = λ (w : WrittenCategory). AtToken BadContext (IsBadContext (portions_of c.args.names.now.lists) w) in
+    let P = BadContextOf (portions_of c.args.names.now.lists) in
     subst (λ ws. IsLeast (OfSome P ws) c.loop-written.found) c.requires.lists.categories
     (whole (λ ws. IsLeast (OfSome P (map written_view ws)) c.loop-written.found) c.args.names.now.lists.categories.now c.loop-written.written-index c.loop-written-test.false c.loop-written.invariant)

@@ -11,7 +11,7 @@ use Rattle.user_grammar.proofs.made_productions.add_made.Goals as goal
 pub returns-else-number-eq4294967295 : goal.returns-else-number-eq4294967295
 returns-else-number-eq4294967295 c = λ written vars own are.
     let texts = names_in c.args.listed.now in
-    let w : WrittenCategory = record { name = token_view c.in-Category.name.now; forms = map plain_form (map (λ form. form.now) c.in-Category.productions.items) } in
+    let w : WrittenCategory = record { name = token_view c.in-Category.name.now; mark = token_view c.in-Category.mark.now; forms = map plain_form (map (λ form. form.now) c.in-Category.productions.items) } in
     category_more c.args.cats.now texts c.args.number w written vars own _ _
     (subst (λ p. AreProductions c.args.cats.now texts c.args.number (category_in (plain_portion (portion_view p)) ++ written) vars own) c.in-Category.is are)
     (λ var first stands. c.in_ok-add_forms-in-Category.ensures var first

@@ -8,5 +8,5 @@ use Rattle.user_grammar.proofs.made_productions.made_categories.Given as goal
 
 abbrev pub invariant-loop-portion : goal.invariant-loop-portion
 invariant-loop-portion l =
-    AllZip (IsMadeCategory (map (λ name. name.now) l.names) (names_in l.listed) (map (λ text. text.now) l.assumed))
+    AllZip (IsMadeCategory (map (λ name. name.now) l.names) (names_in l.listed) (names_in l.assumed))
     (categories (plains (take l.portion-index l.portions))) l.cats.items
