@@ -20,6 +20,8 @@ mod schemes;
 #[cfg(test)]
 mod shown;
 #[cfg(test)]
+mod signatures;
+#[cfg(test)]
 mod texts;
 #[cfg(test)]
 mod theorems;
