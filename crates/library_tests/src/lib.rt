@@ -8,9 +8,13 @@ mod grammars;
 #[cfg(test)]
 mod known_names;
 #[cfg(test)]
+mod long_forms;
+#[cfg(test)]
 mod new_names;
 #[cfg(test)]
 mod outlines;
+#[cfg(test)]
+mod places;
 #[cfg(test)]
 mod readings;
 #[cfg(test)]
