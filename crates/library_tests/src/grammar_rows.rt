@@ -126,7 +126,7 @@ static IN_ORDER: [(&str, &str); 17] = [
     ),
 ];
 
-static FAULTY: [(&str, &str); 45] = [
+static FAULTY: [(&str, &str); 46] = [
     ("terminals z z", "line 1: Duplicate: z"),
     ("terminals z \"z\"", "line 1: Duplicate: z"),
     (
@@ -144,6 +144,7 @@ static FAULTY: [(&str, &str); 45] = [
     ("syntax\nt ::= x\n| y", "line 3: Duplicate: y"),
     ("syntax\nt ::= x | y | x", "line 2: Duplicate: y"),
     ("syntax\nn ::= + |", "line 2: EmptyProduction: n"),
+    ("syntax\nn\n::= + |", "line 2: EmptyProduction: n"),
     (
         "syntax\nm ::= +\nn ::= - n\n| | +",
         "line 3: EmptyProduction: n",
