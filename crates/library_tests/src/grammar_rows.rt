@@ -126,7 +126,7 @@ static IN_ORDER: [(&str, &str); 17] = [
     ),
 ];
 
-static FAULTY: [(&str, &str); 46] = [
+static FAULTY: [(&str, &str); 48] = [
     ("terminals z z", "line 1: Duplicate: z"),
     ("terminals z \"z\"", "line 1: Duplicate: z"),
     (
@@ -241,6 +241,14 @@ static FAULTY: [(&str, &str); 46] = [
     (
         "syntax\nt ::= x | + G\nG ::= * | G, x\njudgment j: G assumes G",
         "line 3: BadContext: G",
+    ),
+    (
+        "syntax\nG\n::= G, x\nt ::= x\njudgment j: G assumes G",
+        "line 3: BadContext: G",
+    ),
+    (
+        "syntax\nG\n::= | G, x\nt ::= x\njudgment j: G assumes G",
+        "line 2: EmptyProduction: G",
     ),
     (
         "terminals fn\nsyntax\nt ::= fn y => t[y] y | x",

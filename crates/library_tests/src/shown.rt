@@ -146,7 +146,11 @@ fn add_declared(out: &mut String, portion: &Portion<'_>) -> Result<(), AllocErro
             add_form(out, items)
         }
         Portion::Syntax { first } => add_by(out, "Syntax", first),
-        Portion::Category { name, productions } => {
+        Portion::Category {
+            name,
+            productions,
+            ..
+        } => {
             add_by(out, "Category", name)?;
             add_forms(out, productions)
         }
