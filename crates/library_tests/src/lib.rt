@@ -8,9 +8,13 @@ mod grammars;
 #[cfg(test)]
 mod known_names;
 #[cfg(test)]
+mod long_forms;
+#[cfg(test)]
 mod new_names;
 #[cfg(test)]
 mod outlines;
+#[cfg(test)]
+mod places;
 #[cfg(test)]
 mod readings;
 #[cfg(test)]
@@ -19,6 +23,8 @@ mod rows;
 mod schemes;
 #[cfg(test)]
 mod shown;
+#[cfg(test)]
+mod signatures;
 #[cfg(test)]
 mod texts;
 #[cfg(test)]

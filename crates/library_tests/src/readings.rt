@@ -55,7 +55,11 @@ fn production(alloc: Global, words: &[&str]) -> Result<Prod, NoMemory> {
 }
 
 /// A grammar with one category and two productions.
-fn grammar(alloc: Global, first: &[&str], second: &[&str]) -> Result<Option<Sig>, NoMemory> {
+pub(crate) fn grammar(
+    alloc: Global,
+    first: &[&str],
+    second: &[&str],
+) -> Result<Option<Sig>, NoMemory> {
     let cats = category(alloc, "e")?;
     let mut prods = Vec::new(alloc);
     prods.push(production(alloc, first)?)?;
@@ -83,7 +87,7 @@ fn token<'a>(word: &'a str) -> Token<'a> {
     }
 }
 
-fn tokens<'a>(alloc: Global, words: &[&'a str]) -> Result<Vec<Token<'a>>, NoMemory> {
+pub(crate) fn tokens<'a>(alloc: Global, words: &[&'a str]) -> Result<Vec<Token<'a>>, NoMemory> {
     let mut tokens = Vec::new(alloc);
     for word in words {
         tokens.push(token(word))?;
@@ -118,11 +122,11 @@ fn reading(
     Ok(None)
 }
 
-fn leaf(alloc: Global) -> Scheme {
+pub(crate) fn leaf(alloc: Global) -> Scheme {
     Scheme::Con(ProdId(1), Items::new(alloc))
 }
 
-fn sum(alloc: Global, left: Scheme, right: Scheme) -> Result<Scheme, NoMemory> {
+pub(crate) fn sum(alloc: Global, left: Scheme, right: Scheme) -> Result<Scheme, NoMemory> {
     let mut parts = Items::new(alloc);
     parts.push(SArg {
         binds: 0,
@@ -136,13 +140,13 @@ fn sum(alloc: Global, left: Scheme, right: Scheme) -> Result<Scheme, NoMemory> {
 }
 
 /// `a + (a + a)`
-fn to_the_right(alloc: Global) -> Result<Scheme, NoMemory> {
+pub(crate) fn to_the_right(alloc: Global) -> Result<Scheme, NoMemory> {
     let inner = sum(alloc, leaf(alloc), leaf(alloc))?;
     sum(alloc, leaf(alloc), inner)
 }
 
 /// `(a + a) + a`
-fn to_the_left(alloc: Global) -> Result<Scheme, NoMemory> {
+pub(crate) fn to_the_left(alloc: Global) -> Result<Scheme, NoMemory> {
     let inner = sum(alloc, leaf(alloc), leaf(alloc))?;
     sum(alloc, inner, leaf(alloc))
 }

@@ -298,7 +298,7 @@ pub(crate) fn signature(alloc: Global, source: &str) -> Option<Sig> {
 }
 
 /// How a form over the functions reads, as a text.
-fn told(alloc: Global, want: Want, form: &str) -> Result<String, AllocError> {
+pub(crate) fn told(alloc: Global, want: Want, form: &str) -> Result<String, AllocError> {
     if 1 << 20 < form.len() {
         return String::from_str(alloc, "too long");
     }
