@@ -197,8 +197,8 @@ fn tokens_of(
     }
 }
 
-/// The theory, the statements and the proofs for which a file stands, or none where the file is not right or has a form that is not built
-/// yet.
+/// The theory, the statements and the proofs for which a file stands, or none where the file is not right so far: it is not right, or its theory
+/// or statements are of a kind that is not built. Nothing is asked of single tokens: `judge_file` asks that none of them is not built.
 pub fn accept_file(alloc: Global, source: &[u8]) -> Result<Option<Accepted>, NoMemory>
     requires size { length source.now < 2 ^ 32 - 1 }
     ensures { IfOk result (IsOnlyFile (IsRightSoFar source.now)) }

@@ -1,5 +1,5 @@
 // Checks of whole files.
-use crate::tests::texts::{CHOICES, FUNCTIONS, NAT, SUMS, TWO_THEOREMS};
+use crate::tests::texts::{CHOICES, FUNCTIONS, NAT, SUMS, TWICE, TWO_THEOREMS};
 use crate::tests::{CHECK, Row};
 
 pub const RIGHT: Row = Row {
@@ -19,7 +19,7 @@ const WRONG: Row = Row {
     ..RIGHT
 };
 
-pub const ROWS: [Row; 20] = [
+pub const ROWS: [Row; 21] = [
     RIGHT,
     Row {
         source: "",
@@ -35,6 +35,10 @@ pub const ROWS: [Row; 20] = [
     },
     Row {
         source: CHOICES,
+        ..RIGHT
+    },
+    Row {
+        source: TWICE,
         ..RIGHT
     },
     // A grammar alone, also one that binds.
@@ -132,7 +136,7 @@ judgment same: e = e
 ];
 
 /// The other half.
-pub const MORE: [Row; 20] = [
+pub const MORE: [Row; 22] = [
     // A word that is a terminal in quotes and a spelling of a category: what it is tells the one reading of its form.
     Row {
         source: "terminals z ok
@@ -228,7 +232,21 @@ end theorem
 ",
         ..WRONG
     },
-    // Steps: the first is ambiguous.
+    // An input without a reading.
+    Row {
+        source: "terminals a
+syntax
+e ::= a
+judgment j: e !
+---- r
+e !
+theorem t: forall d: e exists a !.
+proof by rule r
+end theorem
+",
+        ..WRONG
+    },
+    // Steps: the first is ambiguous, and has one reading with its parentheses.
     Row {
         source: "terminals a
 syntax
@@ -242,6 +260,20 @@ proof by rule refl
 end theorem
 ",
         ..WRONG
+    },
+    Row {
+        source: "terminals a
+syntax
+e ::= e + e | a
+judgment same: e = e
+---- refl
+e = e
+theorem t: exists a = a.
+d: (a + a) + a = (a + a) + a by rule refl
+proof by rule refl
+end theorem
+",
+        ..RIGHT
     },
     // A premise too many, and one too few.
     Row {

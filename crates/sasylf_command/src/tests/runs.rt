@@ -1,5 +1,5 @@
 // Runs.
-use crate::tests::texts::{CHOICES, FUNCTIONS, NAT, SUMS, TWO_THEOREMS, ZERO};
+use crate::tests::texts::{CHOICES, FUNCTIONS, NAT, SUMS, TWICE, TWO_THEOREMS, ZERO};
 use crate::tests::{RUN, Row};
 
 /// Addition, and a theorem whose last step cites the wrong derivation.
@@ -61,7 +61,7 @@ const UNLISTED: Row = Row {
     ..EXAMPLE
 };
 
-pub const ROWS: [Row; 24] = [
+pub const ROWS: [Row; 25] = [
     EXAMPLE,
     // No second put comes.
     Row {
@@ -113,6 +113,17 @@ gives d2
         lines: THREE,
         words: &["run", "f", "choose", "d"],
         written: CHOSEN,
+        ..EXAMPLE
+    },
+    // A derivation that is cited twice is written twice.
+    Row {
+        source: TWICE,
+        lines: "d: a ! by rule first\napply d\n",
+        written: "d1: a ! by rule first
+d2: a ! by rule first
+d3: a ! by rule both on d1, d2
+gives d3
+",
         ..EXAMPLE
     },
     // The file is wrong, with and without a fault that is told.

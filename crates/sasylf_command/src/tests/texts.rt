@@ -72,3 +72,19 @@ t ::= fn x => t[x] | x
 
 /// The derivation of the first sum.
 pub const ZERO: &str = "d: z + z = z by rule plus-z\napply d\n";
+
+/// A rule with two premises of one judgment, and a step that cites one derivation for both.
+pub const TWICE: &str = "terminals a
+syntax
+e ::= a
+judgment holds: e !
+---- first
+a !
+e1 !
+e2 !
+---- both
+a !
+theorem two: forall d: e ! exists a !.
+proof by rule both on d, d
+end theorem
+";

@@ -1,6 +1,6 @@
 // The places at which a form stands that is not built: the file, and the lines that tell it.
 
-pub const PLACES: [(&str, &str); 30] = [
+pub const PLACES: [(&str, &str); 38] = [
     // A judgment in a file that declares a variable, the first one, before or behind the variable.
     (
         "terminals fn\nsyntax\nt ::= fn x => t[x] | x\njudgment same: t = t\n---- refl\nt = t\n",
@@ -128,5 +128,51 @@ pub const PLACES: [(&str, &str); 30] = [
     (
         "theorem t: assumes Gamma exists a.\n",
         "line 1: MissingEnd: theorem\ntheorem t: assumes Gamma exists a.\n",
+    ),
+    // A bracket in a premise, behind `exists`, in a step and in what a step cites.
+    (
+        "judgment j: a\na[b]\n---- r\na\n",
+        "line 2: NotBuilt: [\na[b]\n",
+    ),
+    (
+        "theorem t: exists a[b].\nproof by rule r\nend theorem\n",
+        "line 1: NotBuilt: [\ntheorem t: exists a[b].\n",
+    ),
+    (
+        "theorem t: exists a.\nd: a[b] by rule r\nend theorem\n",
+        "line 2: NotBuilt: [\nd: a[b] by rule r\n",
+    ),
+    (
+        "theorem t: exists a.\nproof by rule r on (a[b])\nend theorem\n",
+        "line 2: NotBuilt: [\nproof by rule r on (a[b])\n",
+    ),
+    // A fault of the tokens comes first, wherever it stands.
+    (
+        "theorem t: exists a.\nproof by d\nend theorem\n\"a\n",
+        "line 4: OpenQuote: 44\n\"a\n",
+    ),
+    // What a file declares is judged only where the file has an outline.
+    (
+        "terminals fn\nsyntax\nt ::= fn x => t[x] | x\njudgment same: t = t\nend case\n",
+        "line 5: Unexpected: end\nend case\n",
+    ),
+    // On one line a count that passed its limit comes before, and a line before it behind.
+    (
+        "theorem t: forall d: a forall d: a forall d: a forall d: a forall d: a forall d: a forall d: a forall d: a
+forall d: a forall d: a forall d: a forall d: a forall d: a forall d: a forall d: a forall d: a
+forall n forall d: a exists a.
+proof by rule r
+end theorem
+",
+        "line 3: TooMany: premises\nforall n forall d: a exists a.\n",
+    ),
+    (
+        "theorem t: forall d: a forall d: a forall d: a forall d: a forall d: a forall d: a forall d: a forall d: a
+forall d: a forall d: a forall d: a forall d: a forall d: a forall d: a forall d: a forall n
+forall d: a exists a.
+proof by rule r
+end theorem
+",
+        "line 2: NotBuilt: n\nforall d: a forall d: a forall d: a forall d: a forall d: a forall d: a forall d: a forall n\n",
     ),
 ];
