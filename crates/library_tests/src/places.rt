@@ -2,12 +2,13 @@
 use crate::readings::{grammar, leaf, sum, to_the_left, to_the_right, tokens};
 use binding_terms::{CatId, NoMemory, Sig};
 use proof_lexer::Token;
-use reading_places::{Place, are_before, are_same, is_before, place_of, places_of};
 use scheme_terms::Scheme;
 use sqlite_items::Items;
 use std::alloc::{AllocError, Global};
 use std::test::Fail;
-use term_reader::{Chart, Piece, Sheet};
+use term_reader::{
+    Chart, Piece, Place, Sheet, are_before, are_same, is_before, place_of, places_of,
+};
 
 #[cycle(shown)]
 fn add_places(alloc: Global, out: &mut String, places: &[Place]) -> Result<(), AllocError> {
