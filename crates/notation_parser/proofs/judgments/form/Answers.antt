@@ -30,8 +30,8 @@ returns-in_ok-found-in-None c =
     (closed_read sheet.sig.now js scope sheet.metas.now ts k j (in_scope c.args.vars.now) _ here c.in-None.is c.requires.vars
     (rw (c.in_ok-id.ensures, c.as_slice-items.ensures) at c.in_ok-found-in-None.ensures))) c.as_judgments.ensures
 
-pub returns-in-Some : goal.returns-in-Some
-returns-in-Some c =
+pub returns-else-not-is_once : goal.returns-else-not-is_once
+returns-else-not-is_once c =
     let sheet = c.args.sheet.now in
     let js = c.args.judgments.now in
     let scope = reading_scope c.args.scope.now in
@@ -43,8 +43,8 @@ returns-in-Some c =
     (λ w x. open_read sheet.sig.now js scope sheet.metas.now ts k j c.in-Some.cat here c.in-Some.is (rw c.as_slice-items.ensures at c.is_once.ensures.0 c.if-not-is_once.false) w x) f)
     (rw (c.asking.ensures, c.in_ok-id.ensures, c.as_slice-items.ensures) at c.open.ensures)
 
-pub returns-then-not-is_once-in-Some : goal.returns-then-not-is_once-in-Some
-returns-then-not-is_once-in-Some c =
+pub returns-then-not-is_once : goal.returns-then-not-is_once
+returns-then-not-is_once c =
     let sheet = c.args.sheet.now in
     let js = c.args.judgments.now in
     let scope = reading_scope c.args.scope.now in
