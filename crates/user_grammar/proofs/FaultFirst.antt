@@ -3,13 +3,12 @@ use Rattle.std.proofs.Common.{ℕ, List, sym, subst, inl, inr, Option, None, Som
 use Rattle.std.specs.Option.{MatchOption}
 use Rattle.sy_base.specs.Tokens.{PlainToken}
 use Rattle.sy_base.specs.declared.fault.Code.{Code}
-use Rattle.sy_base.specs.declared.fault.Code.TheVariants as code
 use Rattle.sy_base.specs.declared.fault.Fault.{Fault}
 use Rattle.proof_lexer.specs.View.{token_view}
 use Rattle.outline_reader.specs.Plain.{PlainPortion}
 use Rattle.user_grammar.specs.File.{categories}
 use Rattle.user_grammar.specs.Fault.{IsFault, HasNoFault, IsFirstFault, IsToldFirst}
-use Rattle.user_grammar.specs.Finding.{IsLeast, IsEarlierOf, Either, OfSome, AtToken}
+use Rattle.user_grammar.specs.Finding.{IsLeast, IsEarlierOf, Either, OfSome}
 use Rattle.user_grammar.specs.FindingPlaces.{ButContexts, BadContextOf, IsTold}
 use Rattle.user_grammar.specs.declared.fault_found.Found.{Found}
 use Rattle.user_grammar.proofs.FaultLeast.{least_same, least_of_two}

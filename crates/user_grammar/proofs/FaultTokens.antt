@@ -15,7 +15,7 @@ use Rattle.user_grammar.specs.Fault.{Place, outside, behind_slot, before_word, b
 use Rattle.user_grammar.specs.Finding.{IsLeast, IsFoundAt, IsEarlierOf, Either}
 use Rattle.user_grammar.specs.FindingPlaces.{AreBinders, IsWrongAt, HasCode, unknown, wrong, twice, AtPlace, AmongFirst, TokensOf}
 use Rattle.user_grammar.specs.declared.fault_found.Found.{Found}
-use Rattle.user_grammar.proofs.FaultLeast.{least_same, least_none, least_of_two, any_left, any_right, any_cases}
+use Rattle.user_grammar.proofs.FaultLeast.{least_same, least_none, least_of_two, any_left, any_right}
 use Rattle.user_grammar.proofs.FaultDeclared.{split_last}
 use Rattle.user_grammar.proofs.FaultPlaces.{place_once}
 

@@ -4,6 +4,7 @@ pub mod OneReading
 pub mod OneSignature
 pub mod MadeReadings
 pub mod MadeDecided
+pub mod FitsDecided
 pub mod MadeNames
 pub mod MadeTold
 pub mod MadeParts

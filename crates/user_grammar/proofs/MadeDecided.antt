@@ -106,7 +106,7 @@ no_spelling_decided names word = all_decided (λ name. IsSpelling name word → 
 pub mark_decided : (code : ℕ) (token : PlainToken) → Decided (IsMark code token)
 mark_decided code token = both_decided (numbers_decided token.kind 2) (texts_decided token.text (code ∷ []))
 
-three : {A B C : Type 0} → Decided A → Decided B → Decided C → Decided (A × B × C)
+pub three : {A B C : Type 0} → Decided A → Decided B → Decided C → Decided (A × B × C)
 three (inl a) (inl b) (inl d) = inl (a, b, d)
 three (inr a) second third = inr (λ h. a h.0)
 three (inl a) (inr b) third = inr (λ h. b h.1)

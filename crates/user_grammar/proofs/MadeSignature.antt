@@ -1,22 +1,27 @@
 -- A grammar without a fault is written as a signature.
-use Rattle.std.proofs.Common.{◌≡◌, ◌↔◌, ℕ, Bool, true, false, List, [], ◌∷◌, Option, None, Some, refl, ap, subst, inl, inr}
+use Rattle.std.proofs.Common.{◌≡◌, ◌↔◌, ℕ, Bool, true, false, not, IsTrue, List, [], ◌∷◌, Option, None, Some, slice_get, refl, ap, subst, inl, inr}
 use Rattle.std.specs.List.{AllByRecursion, AllZip, Contains}
+use Rattle.std.specs.Option.{MatchOption}
 use Rattle.sy_base.specs.Tokens.{PlainToken}
 use Rattle.sy_base.specs.declared.fault.Code.TheVariants as code
 use Rattle.binding_terms.specs.Signature.{Signature, Fits}
 use Rattle.binding_terms.specs.declared.grammar.Cat.{Cat}
 use Rattle.outline_reader.specs.Plain.{PlainPortion, judgment_of, theorem_of}
 use Rattle.user_grammar.specs.File.{WrittenCategory, listed, categories, assumed, assumed_in, texts_if}
-use Rattle.user_grammar.specs.Names.{IsAmong, category_names}
+use Rattle.user_grammar.specs.Names.{IsAmong, category_names, variable_names}
 use Rattle.user_grammar.specs.Production.{IsVariable}
 use Rattle.user_grammar.specs.Grammar.{IsWritten}
 use Rattle.user_grammar.specs.Fault.{category_texts, AssumesHere, unknown_context, HasNoFault}
+use Rattle.rule_schemes.specs.Reading.{IsSpelling}
+use Rattle.user_grammar.specs.Laws.{FaultlessFilesHaveASignature}
 use Rattle.user_grammar.specs.MadeItems.{IsFirstVariable, IsMadeCategory}
 use Rattle.user_grammar.proofs.MadeDecided.{Decided, not_refused, among_decided, variable_decided}
 use Rattle.user_grammar.proofs.MadeCategories.{names_written}
 use Rattle.user_grammar.proofs.MadeNames.{all_joined}
 use Rattle.user_grammar.proofs.MadeTold.{made_names}
 use Rattle.user_grammar.proofs.MadeKnown.{contained, are_categories, known_names, all_productions}
+use Rattle.user_grammar.proofs.FitsDecided.{fits_decided}
+use Rattle.user_grammar.proofs.Spellings.{apart_left, apart_right, one_category, one_variable}
 use Rattle.user_grammar.proofs.MadeFitting.{signature_fits, contexts_stand}
 
 -- ---- categories
@@ -99,3 +104,23 @@ module _ (portions : List PlainPortion) (no_fault : HasNoFault portions) where
         λ refuse. contexts_stand portions no_fault
             (λ contexts. refuse (signature_fits portions no_fault (assumed portions) contexts cats made.1 known named.apart prods.0 same prods.1)),
       )
+
+-- ---- the law
+
+plain_is_spelled : (found : Option Cat) (word : List ℕ) → MatchOption found ⊥ (λ cat. IsTrue (not cat.context) × IsSpelling cat.name word)
+    → MatchOption found ⊥ (λ cat. IsSpelling cat.name word)
+plain_is_spelled None word none = none
+plain_is_spelled (Some cat) word is = is.1
+
+pub signature_stands : FaultlessFilesHaveASignature
+signature_stands portions no_fault =
+    let there = signature_there portions no_fault in
+    let cats = there.0.cats in
+    let apart = there.1.names.apart in (
+      there.0,
+      record { written = there.1; fits = not_refused (fits_decided there.0) there.2 },
+      (λ c d word one other.
+          one_category cats c d word (apart_left (category_names cats) (variable_names cats) apart)
+          (plain_is_spelled (slice_get cats c) word one) (plain_is_spelled (slice_get cats d) word other)),
+      (λ c d word one other. one_variable cats c d word (apart_right (category_names cats) (variable_names cats) apart) one other),
+    )

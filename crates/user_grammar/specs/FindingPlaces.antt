@@ -1,5 +1,5 @@
 -- Where the tokens of a production stand, as functions inside the crate follow them.
-use Rattle.std.specs.Prelude.{Option, None, Some, MatchOption, ◌≡◌, ◌≢◌, ◌↔◌, ◌⊎◌, ◌<◌, ◌++◌, ℕ, List, [], ◌∷◌, map, reverse, length}
+use Rattle.std.specs.Prelude.{Option, None, Some, MatchOption, ◌≡◌, ◌≢◌, ◌↔◌, ◌⊎◌, ◌<◌, ◌++◌, ℕ, List, ◌∷◌, map, reverse, length}
 use Rattle.std.specs.List.{AllByRecursion}
 use Rattle.sy_base.specs.Tokens.{PlainToken}
 use Rattle.outline_reader.specs.Plain.{PlainPortion}

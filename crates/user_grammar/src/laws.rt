@@ -1,4 +1,4 @@
-ghost use Rattle.user_grammar.specs.Laws.{FaultyFilesHaveNoSignature, SignaturesAreUnique};
+ghost use Rattle.user_grammar.specs.Laws.{FaultlessFilesHaveASignature, FaultyFilesHaveNoSignature, SignaturesAreUnique};
 
 /// A file stands for one signature at most.
 #[tactic(auto, using(crate::proofs::OneSignature::one_signature))]
@@ -9,4 +9,10 @@ pub fn signatures_are_unique()
 /// A file whose grammar has a fault stands for no signature.
 pub fn faulty_files_have_no_signature()
     ensures { FaultyFilesHaveNoSignature }
+{}
+
+/// A file whose grammar has no fault stands for a signature, in which no word is a spelling of two plain categories or of the
+/// variables of two categories.
+pub fn faultless_files_have_a_signature()
+    ensures { FaultlessFilesHaveASignature }
 {}

@@ -26,6 +26,8 @@ mod spelling;
 mod tokens;
 mod worked;
 
-pub use laws::{faulty_files_have_no_signature, signatures_are_unique};
+pub use laws::{
+    faultless_files_have_a_signature, faulty_files_have_no_signature, signatures_are_unique,
+};
 pub use phase::grammar;
 pub use worked::lambda_stands_for_its_signature;

@@ -1,4 +1,4 @@
-use Rattle.std.proofs.Common.{map, refl, subst, sym}
+use Rattle.std.proofs.Common.{refl, subst, sym}
 use Rattle.proof_lexer.specs.View.{token_view}
 use Rattle.outline_reader.specs.Plain.{plain_form}
 use Rattle.user_grammar.specs.Production.{AreItems}

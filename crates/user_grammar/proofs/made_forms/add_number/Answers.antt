@@ -1,4 +1,4 @@
-use Rattle.std.proofs.Common.{◌++◌, ◌∷◌, [], ◌∙◌, ap, map}
+use Rattle.std.proofs.Common.{◌++◌, ◌∷◌, [], ◌∙◌, ap}
 use Rattle.user_grammar.specs.Indexed.{names_in}
 use Rattle.user_grammar.proofs.MadeReadings.{among_at}
 use Rattle.user_grammar.proofs.Spellings.{one_place}

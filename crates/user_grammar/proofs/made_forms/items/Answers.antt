@@ -1,4 +1,3 @@
-use Rattle.std.proofs.Common.{map}
 use Rattle.proof_lexer.specs.View.{token_view}
 use Rattle.user_grammar.specs.Indexed.{names_in}
 use Rattle.user_grammar.proofs.MadeReadings.{items_over}

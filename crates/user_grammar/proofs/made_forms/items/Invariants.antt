@@ -1,4 +1,4 @@
-use Rattle.std.proofs.Common.{◌≡◌, ◌≤◌, ◌++◌, ℕ, List, map, length}
+use Rattle.std.proofs.Common.{◌≡◌, ◌≤◌, ◌++◌, ℕ, List, length}
 use Rattle.binding_terms.specs.declared.grammar.Item.{Item}
 use Rattle.outline_reader.specs.Plain.{plain_form}
 use Rattle.user_grammar.specs.Indexed.{names_in}

@@ -1,4 +1,3 @@
-use Rattle.std.proofs.Common.{map}
 use Rattle.user_grammar.specs.Indexed.{names_in}
 use Rattle.user_grammar.proofs.MadeReadings.{numbers_more}
 use Rattle.user_grammar.proofs.made_forms.numbers.Goals as goal

@@ -1,4 +1,3 @@
-use Rattle.std.proofs.Common.{map}
 use Rattle.outline_reader.specs.Plain.{plain_form}
 use Rattle.user_grammar.proofs.MadeReadings.{forms_more, forms_over}
 use Rattle.user_grammar.specs.Indexed.{names_in}

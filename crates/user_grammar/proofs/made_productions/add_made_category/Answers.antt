@@ -4,7 +4,7 @@ use Rattle.binding_terms.specs.declared.grammar.Cat.{Cat}
 use Rattle.proof_lexer.specs.View.{token_view}
 use Rattle.outline_reader.specs.Plain.{plain_form, plain_portion}
 use Rattle.outline_reader.specs.Views.{portion_view}
-use Rattle.user_grammar.specs.File.{WrittenCategory, category_in}
+use Rattle.user_grammar.specs.File.{category_in}
 use Rattle.user_grammar.specs.Indexed.{names_in}
 use Rattle.user_grammar.specs.MadeItems.{IsMadeCategory}
 use Rattle.user_grammar.proofs.made_productions.add_made_category.Goals as goal

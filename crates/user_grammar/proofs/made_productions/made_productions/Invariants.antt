@@ -1,4 +1,4 @@
-use Rattle.std.proofs.Common.{◌≡◌, ◌++◌, ℕ, List, Option, map, drop}
+use Rattle.std.proofs.Common.{◌≡◌, ◌++◌, ℕ, List, Option, drop}
 use Rattle.binding_terms.specs.declared.grammar.Prod.{Prod}
 use Rattle.user_grammar.specs.File.{categories}
 use Rattle.user_grammar.specs.Grammar.{AreProductions}
