@@ -14,3 +14,4 @@ pub mod EndingLemmas
 pub mod ReaderLemmas
 pub mod InputLemmas
 pub mod OnlyOne
+pub mod Chains

@@ -14,6 +14,10 @@ use Rattle.derivation_text.specs.Text.{derivations_text}
 abbrev pub two_sum : Derivation
 two_sum = node 1 (sum (s (s z)) z (s (s z))) (subtree one_sum no_more)
 
+-- the same tree with another conclusion at its end
+abbrev pub wrong_two_sum : Derivation
+wrong_two_sum = node 1 (sum (s (s z)) z (s z)) (subtree one_sum no_more)
+
 -- z + z = z, and two more steps of successors
 abbrev pub SumsText : Type 0
 SumsText =

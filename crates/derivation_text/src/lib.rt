@@ -31,4 +31,4 @@ pub use derivs::{Argument, Derivs, Ending, Kept, Named};
 pub use judgment::print_judgment;
 pub use laws::{inputs_are_unique, texts_are_unique};
 pub use reader::read_derivs;
-pub use worked::{binders_are_written, contexts_are_written, sums_are_written};
+pub use worked::{binders_are_written, chain_is_derived, contexts_are_written, sums_are_written};
