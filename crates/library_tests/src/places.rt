@@ -1,4 +1,6 @@
 // The places at which sums are read, and their order.
+ghost use Rattle.std.specs.Prelude.{◌≡◌};
+
 use crate::readings::{grammar, leaf, sum, to_the_left, to_the_right, tokens};
 use binding_terms::{CatId, NoMemory, Sig};
 use proof_lexer::Token;
