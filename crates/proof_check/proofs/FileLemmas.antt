@@ -95,7 +95,7 @@ pub misplaced : (th : Theory) (sts : List Theorem) (k : ℕ) (p : Portion) (port
     (HoldsNoProof (plain_portion (portion_view p)) → ⊥) → (all : List Step) → AreStepsFrom th sts k (plain_portion (portion_view p) ∷ portions) all → ⊥
 misplaced th sts k (portion.Terminals first items) portions no_theorem holds all h = holds tt
 misplaced th sts k (portion.Syntax first) portions no_theorem holds all h = holds tt
-misplaced th sts k (portion.Category name productions) portions no_theorem holds all h = holds tt
+misplaced th sts k (portion.Category name mark productions) portions no_theorem holds all h = holds tt
 misplaced th sts k (portion.Judgment first name form assumes) portions no_theorem holds all h = holds tt
 misplaced th sts k (portion.Rule premises name conclusion) portions no_theorem holds all h = holds tt
 misplaced th sts k (portion.Theorem first joined kind name assumes inputs outputs targets) portions no_theorem holds all h = no_theorem first joined kind name assumes inputs outputs targets refl
