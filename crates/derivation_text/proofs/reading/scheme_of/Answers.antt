@@ -3,7 +3,7 @@ use Rattle.derivation_text.proofs.FormLemmas.{reads_one, reads_none, reads_two, 
 use Rattle.derivation_text.proofs.reading.scheme_of.Goals as goal
 
 pub read-requires : goal.read-requires
-read-requires c = rw (c.sig.ensures, c.judgments.ensures, c.no_scope-scope.ensures) (readable (theory c.args.sys.now) c.requires)
+read-requires c = rw (c.no_scope-scope.ensures) (readable (theory c.args.sys.now) c.requires)
 
 pub returns-in-Judgment : goal.returns-in-Judgment
 returns-in-Judgment c =

@@ -13,9 +13,7 @@ use Rattle.proof_check.proofs.FormLemmas.{same_tokens, one_answered, no_reading,
 use Rattle.proof_check.proofs.forms.read_form.Goals as goal
 
 pub read-requires : goal.read-requires
-read-requires c =
-    rw (c.sig.ensures, c.judgments.ensures)
-    (plain_readable c.args.sys.now.sig c.args.sys.now.judgments (reading_scope c.args.scope.now) want_judgment c.requires.plain)
+read-requires c = plain_readable c.args.sys.now.sig c.args.sys.now.judgments (reading_scope c.args.scope.now) want_judgment c.requires.plain
 
 pub returns-in-One : goal.returns-in-One
 returns-in-One c =
