@@ -6,7 +6,7 @@ use Rattle.std.proofs.lemmas.Bool.{cases_lt}
 use Rattle.std.proofs.lemmas.List.{drop_more, take_rest, take_all, map-append}
 use Rattle.binding_terms.specs.Signature.{Signature}
 use Rattle.binding_terms.specs.declared.grammar.CatId.{CatId}
-use Rattle.rule_schemes.specs.Reading.{Token, word, punctuation, IsVariableWord, IsVariableOfFirst}
+use Rattle.rule_schemes.specs.Reading.{Token, word, punctuation, IsVariableOfFirst}
 use Rattle.rule_schemes.specs.NewNames.{TellsBrackets, at_end, no_bracket, open_bracket, TellsWords, comma, close_bracket, AreDifferentWords, IsTelling, FirstTells}
 use Rattle.notation_parser.specs.Candidates.{StandsIn, TellsBehind, IsToldAfter}
 use Rattle.notation_parser.specs.declared.parameters.Told.{Told}

@@ -15,7 +15,6 @@ use Rattle.scheme_terms.specs.declared.scheme.Root.{Root}
 use Rattle.scheme_terms.specs.declared.scheme.Root.TheVariants.{Closed, Empty, Whole}
 use Rattle.scheme_terms.specs.declared.scheme.MetaDecl.{MetaDecl}
 use Rattle.rule_schemes.specs.Rules.{JudgmentScheme, JudgmentValue, Theory}
-use Rattle.rule_schemes.specs.declared.rule.Judgment.{Judgment}
 
 -- a bracket after which no blank stands: ( or [
 abbrev pub is_opening : List ℕ → Bool
