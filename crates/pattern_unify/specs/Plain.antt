@@ -1,14 +1,10 @@
 -- The condition under which equations are solved so far: nothing binds.
 use Rattle.std.specs.Prelude.{◌≡◌, List, []}
 use Rattle.std.specs.List.{AllByRecursion}
-use Rattle.binding_terms.specs.Signature.{Signature, slots}
+pub use Rattle.binding_terms.specs.Signature.{Signature, NothingBinds}
 use Rattle.scheme_terms.specs.Forms.{Names}
 use Rattle.scheme_terms.specs.declared.scheme.MetaDecl.{MetaDecl}
 use Rattle.pattern_unify.specs.Equations.{SchemeEquation}
-
--- no slot of a production is under a binder
-abbrev pub NothingBinds : Signature → Type 0
-NothingBinds sig = AllByRecursion (λ prod. AllByRecursion (λ s. s.binds ≡ []) (slots prod.items)) sig.prods
 
 -- no metavariable takes parameters
 abbrev pub HaveNoParameters : List MetaDecl → Type 0
