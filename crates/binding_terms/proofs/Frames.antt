@@ -16,6 +16,7 @@ use Rattle.binding_terms.specs.declared.grammar.ProdId.{ProdId}
 use Rattle.binding_terms.specs.declared.term.Arg.{Arg}
 use Rattle.binding_terms.specs.declared.term.Term.TheVariants.{Con}
 use Rattle.binding_terms.specs.declared.scope.Frames.{Frames, Under, the_lemmas}
+use Rattle.binding_terms.proofs.Lists.{append_beyond, append_within}
 
 pub get_from_end : {X : Type 0} (f : X → ℕ) (xs : List X) (i : ℕ) (d : X) → i < length xs
     → slice_get (reverse (map f xs)) i ≡ Some (f (get_or xs (length xs - 1 - i) d))
@@ -25,20 +26,6 @@ get_from_end f xs i d h =
     let back : length xs - 1 - i < length xs = omega arith in
     slice_get-get_or (reverse (map f xs)) i (f d) whole
     ∙ ap Some (get_or-reverse (map f xs) i (f d) within ∙ rw length-map (get_or-map f xs (length xs - 1 - i) d (f d) back))
-
-pub none_from_end : {X : Type 0} (f : X → ℕ) (xs : List X) (i : ℕ) → length xs ≤ i → slice_get (reverse (map f xs)) i ≡ None
-none_from_end f xs i h = slice_get_past (reverse (map f xs)) i (rw (length-reverse, length-map) h)
-
-pub append_within : {X : Type 0} (xs ys : List X) (i : ℕ) → i < length xs → slice_get (xs ++ ys) i ≡ slice_get xs i
-append_within [] ys i h = absurd (omega arith)
-append_within (x ∷ xs) ys zero h = refl
-append_within (x ∷ xs) ys (suc i) h = append_within xs ys i (omega arith)
-
-pub append_beyond : {X : Type 0} (xs ys : List X) (i : ℕ) → length xs ≤ i → slice_get (xs ++ ys) i ≡ slice_get ys (i - length xs)
-append_beyond [] ys i h = ap (slice_get ys) (let e : i ≡ i - 0 = omega arith in e)
-append_beyond (x ∷ xs) ys zero h = absurd (omega arith)
-append_beyond (x ∷ xs) ys (suc i) h =
-    append_beyond xs ys i (omega arith) ∙ ap (slice_get ys) (let e : i - length xs ≡ suc i - suc (length xs) = omega arith in e)
 
 -- a variable of the innermost slot, and one outside it
 pub within : (bs binds scope : List ℕ) (i : ℕ) → i < length binds → slice_get (bound bs binds ++ scope) i ≡ slice_get (bound bs binds) i

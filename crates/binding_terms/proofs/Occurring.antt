@@ -10,8 +10,8 @@ use Rattle.binding_terms.specs.Scope.{bound, IsTerm, AreParts}
 use Rattle.binding_terms.specs.Signature.{Signature, Place, HasVariable, Reaches, itself, through_slot, slots, binders}
 use Rattle.binding_terms.specs.Tree.{Tree, var, con, Args, no_args, arg, free, free_args}
 use Rattle.binding_terms.specs.declared.grammar.Prod.{Prod}
-use Rattle.binding_terms.proofs.Frames.{append_within, append_beyond}
-use Rattle.binding_terms.proofs.Scopes.{length_bound, match_map}
+use Rattle.binding_terms.proofs.Scopes.{length_bound}
+use Rattle.binding_terms.proofs.Lists.{append_beyond, append_within, match_both, match_map, match_to}
 
 -- what stands free is below the bound of the free variables
 mutual
@@ -23,10 +23,6 @@ mutual
   IsFreeInArgs-below i no_args h = absurd h
   IsFreeInArgs-below i (arg n t xs) (inl h) = let below = IsFreeIn-below (i + n) t h in omega arith
   IsFreeInArgs-below i (arg n t xs) (inr h) = let below = IsFreeInArgs-below i xs h in omega arith
-
-pub match_to : {A : Type 0} (o : Option A) (P : A → Type 0) (R : Type 0) → ((a : A) → P a → R) → MatchOption o ⊥ P → R
-match_to None P R f h = absurd h
-match_to (Some a) P R f h = f a h
 
 agree_under : (own scope other : List ℕ) (n : ℕ) (t : Tree) → length own ≡ n → ((i : ℕ) → IsFreeIn (i + n) t → slice_get scope i ≡ slice_get other i)
     → (i : ℕ) → IsFreeIn i t → slice_get (own ++ scope) i ≡ slice_get (own ++ other) i
@@ -79,11 +75,6 @@ module _ (sig : Signature) where
         let body : free t ≤ length (own ++ scope) = IsTerm-free (own ++ scope) s.cat t h.1 in
         let rest : free_args xs ≤ length scope = AreParts-free scope bs ss xs h.2 in
         omega (arith, length-append own scope)
-
--- what a production's slot holds is reached
-match_both : {A : Type 0} (o : Option A) (P Q : A → Type 0) (R : Type 0) → ((a : A) → o ≡ Some a → P a → Q a → R) → MatchOption o ⊥ P → MatchOption o ⊥ Q → R
-match_both None P Q R f h k = absurd h
-match_both (Some a) P Q R f h k = f a refl h k
 
 has_slot : (cat d : ℕ) (prods : List Prod) (p : ℕ) (prod : Prod) → slice_get prods p ≡ Some prod → prod.cat.0 ≡ cat
     → AnyByRecursion (λ s. s.cat ≡ d) (slots prod.items) → AnyByRecursion (λ q. (q.cat.0 ≡ cat) × AnyByRecursion (λ s. s.cat ≡ d) (slots q.items)) prods

@@ -9,6 +9,7 @@ use Rattle.binding_terms.specs.Numbered.{AllNumbered, AnyByRecursion}
 use Rattle.binding_terms.specs.Reach.{Follows, IsClosed, IsColumn, IsMarked, IsReachTable}
 use Rattle.binding_terms.specs.Signature.{Signature, Place, HasVariable, ProdFits, Reaches, itself, through_slot, slots}
 use Rattle.binding_terms.specs.declared.grammar.Prod.{Prod}
+use Rattle.binding_terms.proofs.Lists.{match_within, numbered_match_at}
 
 -- marks after one was set
 pub IsMarked-set : (marks : List Bool) (i : ℕ) (b : Bool) → i < length marks → (k : ℕ) →
@@ -46,11 +47,6 @@ unmarked_falls marks i e =
     let total = sum_by-set (λ b. cond (not b) 1 0) marks i true false within in
     let one : ◌≡◌ {A = ℕ} (cond (not (get_or marks i false)) 1 0) 1 = ap (λ b. cond (not b) 1 0) was in
     omega (arith, total, one)
-
-pub any_at : {A : Type 0} (P : A → Type 0) (xs : List A) (i : ℕ) (x : A) → i < length xs → x ≡ get_or xs i x → P x → AnyByRecursion P xs
-any_at P [] i x h e p = absurd (omega arith)
-any_at P (y ∷ ys) zero x h e p = inl (subst P e p)
-any_at P (y ∷ ys) (suc i) x h e p = inr (any_at P ys i x (omega arith) e p)
 
 module _ (sig : Signature) (marks : List Bool) (to : ℕ) where
   -- a production with a marked slot has a slot that reaches what the marks reach
@@ -91,28 +87,10 @@ pub Reaches-HasVariable : {sig : Signature} {from to : ℕ} → Reaches sig from
 Reaches-HasVariable (itself c has) = has
 Reaches-HasVariable (through_slot c d v has way) = Reaches-HasVariable way
 
-pub match_within : {A : Type 0} (xs : List A) (i : ℕ) (P : A → Type 0) → MatchOption (slice_get xs i) ⊥ P → i < length xs
-match_within xs i P h = at (cases_lt i (length xs))
-  where
-    at : (i < length xs) ⊎ (length xs ≤ i) → i < length xs
-    at (inl k) = k
-    at (inr k) = absurd (subst (λ o. MatchOption o ⊥ P) (slice_get_past xs i k) h)
-
 pub cats_in_range : (sig : Signature) (count : ℕ) → count ≡ length sig.cats → (prods : List Prod) → AllByRecursion (ProdFits sig) prods → AllByRecursion (λ p. p.cat.0 < count) prods
 cats_in_range sig count e [] h = tt
 cats_in_range sig count e (p ∷ ps) h =
     (subst (λ n. p.cat.0 < n) (sym e) (match_within sig.cats p.cat.0 _ h.0.form), cats_in_range sig count e ps h.1)
-
-pub AllNumbered-push : {A : Type 0} (P : ℕ → A → Type 0) (n : ℕ) (xs : List A) (x : A) → AllNumbered P n xs → P (n + length xs) x → AllNumbered P n (xs ++ x ∷ [])
-AllNumbered-push P n [] x h p = (subst (λ k. P k x) (let e : n + 0 ≡ n = omega arith in e) p, tt)
-AllNumbered-push P n (y ∷ ys) x h p =
-    (h.0, AllNumbered-push P (suc n) ys x h.1 (subst (λ k. P k x) (let e : n + suc (length ys) ≡ suc n + length ys = omega arith in e) p))
-
-pub AllNumbered-at : {A : Type 0} (P : ℕ → A → Type 0) (n : ℕ) (xs : List A) (i : ℕ) → AllNumbered P n xs → i < length xs → MatchOption (slice_get xs i) ⊥ (P (n + i))
-AllNumbered-at P n [] i h k = absurd (omega arith)
-AllNumbered-at P n (y ∷ ys) zero h k = subst (λ m. P m y) (let e : n ≡ n + 0 = omega arith in e) h.0
-AllNumbered-at P n (y ∷ ys) (suc i) h k =
-    subst (λ m. MatchOption (slice_get ys i) ⊥ (P m)) (let e : suc n + i ≡ n + suc i = omega arith in e) (AllNumbered-at P (suc n) ys i h.1 (omega arith))
 
 -- columns for all categories are the table
 pub columns_are_table : (sig : Signature) (columns : List (List Bool)) → length columns ≡ length sig.cats → AllNumbered (IsColumn sig) 0 columns → IsReachTable sig columns
@@ -123,7 +101,7 @@ columns_are_table sig columns long all from to = at (cases_lt to (length columns
     inside (Some marks) h = h from
 
     at : (to < length columns) ⊎ (length columns ≤ to) → MatchOption (slice_get columns to) ⊥ (λ marks. IsMarked marks from) ↔ Reaches sig from to
-    at (inl k) = inside (slice_get columns to) (subst (λ n. MatchOption (slice_get columns to) ⊥ (IsColumn sig n)) (let e : 0 + to ≡ to = omega arith in e) (AllNumbered-at (IsColumn sig) 0 columns to all k))
+    at (inl k) = inside (slice_get columns to) (subst (λ n. MatchOption (slice_get columns to) ⊥ (IsColumn sig n)) (let e : 0 + to ≡ to = omega arith in e) (numbered_match_at (IsColumn sig) 0 columns to all k))
     at (inr k) = (
       λ h. absurd (subst (λ o. MatchOption o ⊥ (λ marks. IsMarked marks from)) (slice_get_past columns to k) h),
       λ way. absurd (let no : ⊥ = omega (arith, match_within sig.cats to _ (Reaches-HasVariable way)) in no),

@@ -8,14 +8,10 @@ use Rattle.binding_terms.specs.Signature.{Signature, Place, slots, binders}
 use Rattle.binding_terms.specs.Scope.{bound, IsTerm, AreParts, Fills}
 use Rattle.binding_terms.specs.Substitution.{under, filled, filled_args}
 use Rattle.binding_terms.specs.Laws.{ShiftKeepsScope, PutKeepsScope, FilledKeepsScope}
-use Rattle.binding_terms.proofs.Frames.{append_within, append_beyond}
 use Rattle.binding_terms.proofs.Filling.{under_at, under_past}
 use Rattle.binding_terms.proofs.Puts.{put_below, put_here, put_above}
 use Rattle.binding_terms.proofs.Substitutions.{put_is_filled}
-
-pub match_map : {A : Type 0} (o : Option A) (P Q : A → Type 0) → ((a : A) → P a → Q a) → MatchOption o ⊥ P → MatchOption o ⊥ Q
-match_map None P Q f h = h
-match_map (Some a) P Q f h = f a h
+use Rattle.binding_terms.proofs.Lists.{append_beyond, append_within, match_map}
 
 raised_get : (inner new outer : List ℕ) (i : ℕ) → (i < length inner) ⊎ (length inner ≤ i) →
     slice_get (inner ++ (new ++ outer)) (raised (length inner) (length new) i) ≡ slice_get (inner ++ outer) i

@@ -13,11 +13,11 @@ use Rattle.scheme_terms.specs.Instance.{instance_of, FitsScope}
 use Rattle.scheme_terms.specs.SchemeScope.{AreSchemes}
 use Rattle.scheme_terms.specs.Substituting.{applied, followed, IsSubstitution}
 use Rattle.scheme_terms.specs.declared.scheme.Root.TheVariants.{Closed}
-use Rattle.scheme_terms.proofs.Options.{match_some}
 use Rattle.scheme_terms.proofs.SchemeFacts.{length_bound}
 use Rattle.scheme_terms.proofs.Followed.{instance_of_applied_scheme}
 use Rattle.scheme_terms.proofs.InstanceScopes.{instance_keeps_scope_of_metas}
 use Rattle.rule_schemes.specs.Rules.{JudgmentScheme, IsBelow, AreBelow}
+use Rattle.binding_terms.proofs.Lists.{match_some}
 
 -- a form without a context
 abbrev pub no_context : SchemeContext

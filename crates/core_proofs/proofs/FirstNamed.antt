@@ -5,11 +5,11 @@ use Rattle.std.specs.List.{AllByRecursion}
 use Rattle.std.proofs.lemmas.Bool.{cases_lt}
 use Rattle.std.proofs.lemmas.List.{length-map}
 use Rattle.std.proofs.lemmas.Option.{slice_get-map}
-use Rattle.scheme_terms.proofs.Options.{match_from}
 use Rattle.rule_schemes.specs.Statement.{Theorem}
 use Rattle.rule_schemes.specs.View.{statement}
 use Rattle.rule_schemes.specs.declared.rule.Statement.{Statement}
 use Rattle.core_proofs.specs.Provable.{IsFirstNamed}
+use Rattle.binding_terms.proofs.Lists.{match_from}
 
 -- none of the first so many has the name
 abbrev pub NoneBefore : List Theorem → List ℕ → ℕ → Type 0

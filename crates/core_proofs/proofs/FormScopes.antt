@@ -12,9 +12,9 @@ use Rattle.scheme_terms.specs.declared.scheme.SArg.{SArg}
 use Rattle.scheme_terms.specs.declared.scheme.Scheme.{Scheme, the_lemmas}
 use Rattle.scheme_terms.specs.declared.scheme.Scheme.TheVariants.{Meta}
 use Rattle.scheme_terms.specs.declared.scheme.MetaId.{MetaId}
-use Rattle.scheme_terms.proofs.Options.{match_at, match_from}
 use Rattle.pattern_unify.specs.Plain.{HaveNoParameters}
 use Rattle.pattern_unify.proofs.PlainSchemes.{all_at}
+use Rattle.binding_terms.proofs.Lists.{match_at, match_from}
 
 -- no slot is left exactly where no argument is
 pub parts_end : (sig : Signature) (names : Names) (bs : List ℕ) (parts : List SArg) (next : ℕ) → next ≤ length parts →

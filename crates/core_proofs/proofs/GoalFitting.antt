@@ -5,13 +5,11 @@ use Rattle.std.proofs.lemmas.Option.{slice_get_within, get_or_from_slice_get}
 use Rattle.std.proofs.lemmas.List.{drop_more, map-append}
 use Rattle.std.specs.List.{AllByRecursion}
 use Rattle.binding_terms.specs.Numbered.{AnyByRecursion, AllNumbered}
-use Rattle.binding_terms.proofs.Frames.{append_within}
 use Rattle.scheme_terms.specs.SchemeTree.{SchemeTree, meta, local, no_values, values, StrictIn}
 use Rattle.scheme_terms.specs.Forms.{Names, Substitution}
 use Rattle.scheme_terms.specs.SchemeScope.{IsScheme, AreValues}
 use Rattle.scheme_terms.specs.Substituting.{applied, parameters}
 use Rattle.scheme_terms.specs.declared.scheme.MetaDecl.{MetaDecl}
-use Rattle.scheme_terms.proofs.Options.{match_some, match_from}
 use Rattle.pattern_unify.specs.Equations.{SchemeEquation, equation}
 use Rattle.pattern_unify.specs.Plain.{HaveNoParameters}
 use Rattle.pattern_unify.specs.Fit.{Becomes}
@@ -34,6 +32,7 @@ use Rattle.core_proofs.proofs.RuleFitting.{bare_forms, all_forms, match_both, ea
 use Rattle.core_proofs.proofs.Moving.{is_front}
 use Rattle.core_proofs.proofs.PlainForms.{plain_forms}
 use Rattle.core_proofs.proofs.Keeping.{plain_scope}
+use Rattle.binding_terms.proofs.Lists.{append_within, match_from, match_some}
 
 -- what holds of the equation of each name holds of all of them
 from_stays : (P : SchemeEquation → Type 0) (n : ℕ) (decls : List MetaDecl) → AllNumbered (λ m decl. P (stays m)) n decls → AllByRecursion P (stays_from n decls)

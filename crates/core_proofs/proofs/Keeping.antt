@@ -6,7 +6,6 @@ use Rattle.std.specs.List.{AllByRecursion}
 use Rattle.binding_terms.specs.Numbered.{AnyByRecursion}
 use Rattle.scheme_terms.specs.Forms.{Names}
 use Rattle.scheme_terms.specs.declared.scheme.MetaDecl.{MetaDecl}
-use Rattle.scheme_terms.proofs.Options.{match_some, match_from}
 use Rattle.pattern_unify.specs.Plain.{HaveNoParameters}
 use Rattle.pattern_unify.proofs.PlainSchemes.{all_at}
 use Rattle.pattern_unify.proofs.Solving.{all_append}
@@ -19,6 +18,7 @@ use Rattle.core_proofs.specs.Proof.{IsProofScope, given_judgments, Standing, out
 use Rattle.core_proofs.specs.Provable.{IsProvable, CountsInputs}
 use Rattle.core_proofs.proofs.Moving.{Follows, leads_on, counted, is_front}
 use Rattle.core_proofs.proofs.PlainForms.{form_in_front, plain_form}
+use Rattle.binding_terms.proofs.Lists.{match_from, match_some}
 
 -- The scope of a proof that was begun, the forms in scope and the last form: nothing binds, and there is no context.
 pub record IsPlainProof (th : Theory) (st : Theorem) (scope : Names) (scoped : List JudgmentScheme) (last : Option JudgmentScheme) : Type 0 where

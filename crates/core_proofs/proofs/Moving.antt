@@ -10,6 +10,7 @@ use Rattle.rule_schemes.specs.Statement.{Theorem, IsOfInputs}
 use Rattle.core_proofs.specs.Step.{Step, begin_theorem, end_theorem, by_rule}
 use Rattle.core_proofs.specs.Proof.{IsProofScope, HasGoal, given_judgments, Standing, outside, within, Move, begins, by_a_rule, ends, Leads, no_step, one_step}
 use Rattle.core_proofs.specs.Provable.{IsRightByRule, CountsInputs}
+use Rattle.binding_terms.proofs.Lists.{same_front}
 
 -- what a right beginning asks, and where it leads
 pub record Begins (th : Theory) (sts : List Theorem) (k n : ℕ) (to : Standing) : Type 0 where
@@ -63,17 +64,6 @@ moves th sts (within k scope scoped last) to (by_rule line form r on) f =
     subst (λ (t : Standing). Move th sts (within k scope scoped last) (by_rule line form r on) t) (sym f.leads)
     (by_a_rule f.right.form_is f.right.cited_are f.right.here f.right.is_instance)
 
--- the fronts of two splits of one list at one place
-fronts : {A : Type 0} (xs ys more rest : List A) → length xs ≡ length ys → xs ++ more ≡ ys ++ rest → xs ≡ ys
-fronts [] [] more rest l e = refl
-fronts [] (y ∷ ys) more rest l e = absurd (let no : ⊥ = omega (arith, l) in no)
-fronts (x ∷ xs) [] more rest l e = absurd (let no : ⊥ = omega (arith, l) in no)
-fronts (x ∷ xs) (y ∷ ys) more rest l e =
-    let first : x ≡ y = cc in
-    let left : xs ++ more ≡ ys ++ rest = cc in
-    let same : xs ≡ ys = fronts xs ys more rest (omega (arith, l)) left in
-    λ i. first i ∷ same i
-
 module _ (st : Theorem) where
   -- the names of a proof's scope are no more than so many of which each stands in an input
   no_longer : (a : Names) (n : ℕ) → IsProofScope st a → n ≤ length st.scope.metas → ((m : ℕ) → m < n → IsOfInputs st m) → length a.metas < n → ⊥
@@ -117,7 +107,7 @@ module _ (st : Theorem) where
         ]
       ] in
       let root : a.root ≡ b.root = is.root ∙ sym other.root in
-      let metas : a.metas ≡ b.metas = fronts a.metas b.metas is.goal_names other.goal_names long (sym is.split ∙ other.split) in
+      let metas : a.metas ≡ b.metas = same_front a.metas b.metas is.goal_names other.goal_names long (sym is.split ∙ other.split) in
       let knowns : a.knowns ≡ b.knowns = is.knowns ∙ sym other.knowns in
       λ i. record { root = root i; metas = metas i; knowns = knowns i }
 

@@ -8,14 +8,12 @@ use Rattle.binding_terms.specs.Signature.{Signature, Place, slots, binders, IsCo
 use Rattle.binding_terms.specs.Scope.{bound}
 use Rattle.binding_terms.specs.declared.grammar.Cat.{Cat}
 use Rattle.binding_terms.specs.declared.grammar.CatId.{CatId}
-use Rattle.binding_terms.proofs.Frames.{append_within}
 use Rattle.scheme_terms.specs.SchemeTree.{SchemeTree, meta, known, local, con, Values, no_values, value, Parts, no_parts, part, OccursIn, OccursInValues, OccursInParts}
 use Rattle.scheme_terms.specs.Forms.{Names, SchemeEntry}
 use Rattle.scheme_terms.specs.SchemeScope.{IsScheme, AreValues, AreSchemeParts, AreSchemes, IsSchemeContext, AreExplicitEntries, entry_variables, StandsWith}
 use Rattle.scheme_terms.specs.declared.scheme.MetaDecl.{MetaDecl}
 use Rattle.scheme_terms.specs.declared.scheme.Root.{Root}
 use Rattle.scheme_terms.specs.declared.scheme.Root.TheVariants.{Closed, Empty, Whole}
-use Rattle.scheme_terms.proofs.Options.{match_some, match_from}
 use Rattle.pattern_unify.proofs.PlainSchemes.{all_at}
 use Rattle.rule_schemes.specs.declared.rule.Judgment.{Judgment}
 use Rattle.rule_schemes.specs.Rules.{JudgmentScheme, Rule, Theory, JudgmentFits, RuleFits, IsRootOf, IsJudgmentScheme, MayStand, ENTRIES, argument_slots, rule_names}
@@ -23,6 +21,7 @@ use Rattle.rule_schemes.specs.Plain.{IsPlainSignature, IsPlainSystem, HasPlainNa
 use Rattle.rule_schemes.specs.Statement.{OccursInJudgment}
 use Rattle.core_proofs.specs.Plain.{IsPlainForm, IsPlainRule}
 use Rattle.core_proofs.specs.Proof.{IsStepForm}
+use Rattle.binding_terms.proofs.Lists.{append_within, match_from, match_some}
 
 no_context : (cats : List Cat) (c : ℕ) → AllByRecursion (λ cat. cat.context ≡ false) cats
     → MatchOption (slice_get cats c) ⊥ (λ cat. cat.context ≡ true) → ⊥

@@ -10,7 +10,6 @@ use Rattle.scheme_terms.specs.Forms.{SchemeContext, Names, Substitution}
 use Rattle.scheme_terms.specs.SchemeScope.{AreSchemes, IsSchemeContext, AreExplicitEntries, entry_variables}
 use Rattle.scheme_terms.specs.Substituting.{applied, IsSubstitution}
 use Rattle.scheme_terms.specs.declared.scheme.MetaDecl.{MetaDecl}
-use Rattle.scheme_terms.proofs.Options.{match_some}
 use Rattle.pattern_unify.specs.Equations.{SchemeEquation}
 use Rattle.pattern_unify.specs.Plain.{NothingBinds}
 use Rattle.pattern_unify.specs.Fit.{Becomes}
@@ -22,6 +21,7 @@ use Rattle.core_proofs.specs.RuleStep.{form_in, IsRaisedTo, IsRuleInstance}
 use Rattle.core_proofs.specs.Plain.{IsPlainScope, IsPlainForm, IsPlainRule}
 use Rattle.core_proofs.proofs.ClosedForms.{closed_form, is_closed_form}
 use Rattle.core_proofs.proofs.RuleSteps.{form_is}
+use Rattle.binding_terms.proofs.Lists.{match_some, numbered_map}
 
 -- the places of a judgment's arguments
 abbrev pub places : Theory → ℕ → List Place
@@ -207,10 +207,6 @@ all_strict th names m (j ∷ js) (t ∷ ts) p (inl h) =
 all_strict th names m (j ∷ js) (t ∷ ts) p (inr h) =
     some_both (λ e. StrictIn m e.left) (form_equations j t) (all_equations js ts) (inr (all_strict th names m js ts p.1 h))
 
-pub numbered_map : {A : Type 0} (P Q : ℕ → A → Type 0) → ((m : ℕ) (a : A) → P m a → Q m a) → (n : ℕ) (xs : List A) → AllNumbered P n xs → AllNumbered Q n xs
-numbered_map P Q f n [] h = tt
-numbered_map P Q f n (x ∷ xs) h = (f n x h.0, numbered_map P Q f (suc n) xs h.1)
-
 pub firsts : (P Q : SchemeEquation → Type 0) (es : List SchemeEquation) → AllByRecursion (λ e. P e × Q e) es → AllByRecursion P es × AllByRecursion Q es
 firsts P Q [] h = (tt, tt)
 firsts P Q (e ∷ es) h = let rest = firsts P Q es h.1 in ((h.0.0, rest.0), (h.0.1, rest.1))
@@ -309,7 +305,3 @@ lengths_differ (j ∷ js) (t ∷ ts) h =
     both_none : (o : Option (List SchemeEquation)) → both o None ≡ None
     both_none None = refl
     both_none (Some xs) = refl
-
-pub mapped_some : {A B : Type 0} (f : A → B) (o : Option A) → is_some (option_map f o) ≡ is_some o
-mapped_some f None = refl
-mapped_some f (Some a) = refl

@@ -11,7 +11,6 @@ use Rattle.scheme_terms.specs.SchemeScope.{IsScheme, AreSchemes, IsSchemeContext
 use Rattle.scheme_terms.specs.Substituting.{applied, followed, followed_metas, params, IsSubstitution, IsKnownValue}
 use Rattle.scheme_terms.specs.declared.scheme.MetaDecl.{MetaDecl}
 use Rattle.scheme_terms.specs.declared.scheme.Root.TheVariants.{Closed}
-use Rattle.scheme_terms.proofs.Options.{match_some, match_from}
 use Rattle.scheme_terms.proofs.SchemeFacts.{length_params}
 use Rattle.scheme_terms.proofs.InstanceScopes.{instance_keeps_scope_of_metas}
 use Rattle.rule_schemes.specs.Rules.{JudgmentScheme, JudgmentValue, Rule, Theory, IsInstance, IsJudgmentScheme, IsRootOf, IsBelow, AreClosed, judgment_instance, argument_slots, rule_names}
@@ -20,6 +19,7 @@ use Rattle.core_proofs.specs.RuleStep.{form_in, IsRaisedTo}
 use Rattle.core_proofs.specs.Value.{subtrees}
 use Rattle.core_proofs.specs.Laws.{RuleStepDerives}
 use Rattle.core_proofs.proofs.ClosedForms.{closed_form, is_closed_form, no_value, closed_instances, instances_applied}
+use Rattle.binding_terms.proofs.Lists.{match_from, match_some}
 
 -- a closed form over names has no entries, and its arguments are schemes without locals
 record IsClosedOver (th : Theory) (names : Names) (j : JudgmentScheme) : Type 0 where

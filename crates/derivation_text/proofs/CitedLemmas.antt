@@ -15,6 +15,7 @@ use Rattle.derivation_text.specs.Valid.{tree_named}
 use Rattle.derivation_text.specs.Found as found
 use Rattle.derivation_text.specs.declared.derivs.Named.{Named}
 use Rattle.derivation_text.proofs.NodeLemmas.{and_left, and_right, name_is_word, same_bytes}
+use Rattle.binding_terms.proofs.Lists.{if_some}
 
 -- at the end of the further names
 pub further_end : (known : List Named) (trees : List Derivation) (rest : List Token) → length rest < 2
@@ -22,10 +23,6 @@ pub further_end : (known : List Named) (trees : List Derivation) (rest : List To
 further_end known trees [] short = ap Some (sym (append-nil trees))
 further_end known trees (t ∷ []) short = refl
 further_end known trees (t ∷ (u ∷ ts)) short = absurd (omega arith)
-
-pub if_some : {A : Type 0} (b : Bool) (x : Option A) {y : A} → (if b then x else None) ≡ Some y → IsTrue b × (x ≡ Some y)
-if_some true x e = (refl, e)
-if_some false x e = absurd (cc)
 
 pub if_true : {A : Type 0} (b : Bool) (x y : A) → IsTrue b → (if b then x else y) ≡ x
 if_true true x y h = refl

@@ -13,13 +13,14 @@ use Rattle.derivation_text.specs.Valid.{tree_named, no_last, applied, given_out,
 use Rattle.derivation_text.specs.Found.{is_name_token, with_first}
 use Rattle.std.specs.Str.{bytes_eq}
 use Rattle.rule_schemes.specs.Derivation.{Derivation}
-use Rattle.derivation_text.proofs.CitedLemmas.{if_some, if_true, with_some, comma_is}
+use Rattle.derivation_text.proofs.CitedLemmas.{if_true, with_some, comma_is}
 use Rattle.derivation_text.specs.Ending as spec
 use Rattle.derivation_text.specs.Ending.{Closes, HasNoClosing, Turns, IsFront, HasNoFront, IsRest, HasNoRest, IsArguments, HasNoArguments, HasNoLast}
 use Rattle.derivation_text.specs.Contents.{argument}
 use Rattle.derivation_text.specs.declared.arguments.Argued.{Argued}
 use Rattle.derivation_text.specs.declared.derivs.Named.{Named}
-use Rattle.derivation_text.proofs.NodeLemmas.{heads, tails, name_is_word}
+use Rattle.derivation_text.proofs.NodeLemmas.{name_is_word}
+use Rattle.binding_terms.proofs.Lists.{cons_head, cons_tail, if_some, map_empty_back, nothing_around}
 
 -- at the end of the further names
 pub further_end : (known : List Named) (names : List (List ℕ)) (rest : List Token) → length rest < 2
@@ -30,10 +31,6 @@ further_end known names (t ∷ (u ∷ ts)) short = absurd (omega arith)
 
 apart : punctuation 40 ≡ punctuation 41 → ⊥
 apart e = (let n : ◌≡◌ {A = ℕ} 40 41 = ap (λ (t : Read). get_or t.1 0 0) e in absurd (omega (arith, n)))
-
-nothing_cons : {A : Type 0} (x : A) (xs ys : List A) → [] ≡ xs ++ x ∷ ys → ⊥
-nothing_cons x [] ys e = cc
-nothing_cons x (y ∷ xs) ys e = cc
 
 -- what is read up to a place of the tokens, and what is still to come
 pub record Passes (whole front back : List Read) (n : ℕ) : Type 0 where
@@ -68,12 +65,12 @@ not_first n m t (inr (inr h)) e b = h.1 e
 
 closes_after : (n m : ℕ) (t : Read) (back more rest : List Read) → Turns n t m → Closes n (t ∷ back) more rest
     → (left : List Read) × (more ≡ t ∷ left) × Closes m back left rest
-closes_after n m t back [] rest turns h = absurd (not_first n m t turns (heads h.tokens_are) h.balanced)
+closes_after n m t back [] rest turns h = absurd (not_first n m t turns (cons_head h.tokens_are) h.balanced)
 closes_after n m t back (u ∷ more) rest turns h =
-    let same : t ≡ u = heads h.tokens_are in (
+    let same : t ≡ u = cons_head h.tokens_are in (
       more,
       ap (λ (x : Read). x ∷ more) (sym same),
-      record { tokens_are = tails h.tokens_are; balanced = after_token n m t more turns (subst (λ (x : Read). IsBalanced n (x ∷ more)) (sym same) h.balanced) },
+      record { tokens_are = cons_tail h.tokens_are; balanced = after_token n m t more turns (subst (λ (x : Read). IsBalanced n (x ∷ more)) (sym same) h.balanced) },
     )
 
 closes_before : (n m : ℕ) (t : Read) (back more rest : List Read) → Turns n t m → Closes m back more rest → Closes n (t ∷ back) (t ∷ more) rest
@@ -110,15 +107,15 @@ passes_next tokens i d whole n m within p turns =
     (subst (λ (x : List Read). Passes whole (map token (take i tokens)) x n) (split_drop tokens i d within) p) turns)
 
 drop_past : (tokens : List Token) (i : ℕ) → length tokens ≤ i → drop i tokens ≡ []
-drop_past tokens i past = empty_list (drop i tokens) (omega (arith, length-drop i tokens)) where
-  empty_list : (xs : List Token) → length xs ≡ 0 → xs ≡ []
-  empty_list [] e = refl
-  empty_list (x ∷ xs) e = absurd (omega arith)
+drop_past tokens i past = map_empty_back (drop i tokens) (omega (arith, length-drop i tokens)) where
+  map_empty_back : (xs : List Token) → length xs ≡ 0 → xs ≡ []
+  map_empty_back [] e = refl
+  map_empty_back (x ∷ xs) e = absurd (omega arith)
 
 pub passes_end : (whole front : List Read) (n : ℕ) → Passes whole front [] n → HasNoClosing whole
 passes_end whole front n p form rest h =
     let first = p.forth form rest h in
-    nothing_cons (punctuation 41) first.0 rest first.2.tokens_are
+    nothing_around (punctuation 41) first.0 rest first.2.tokens_are
 
 pub passes_found : (tokens : List Token) (i : ℕ) (d : Token) (n : ℕ) → i < length tokens
     → Passes (map token tokens) (map token (take i tokens)) (map token (drop i tokens)) n → token (get_or tokens i d) ≡ punctuation 41 → n ≡ 0
@@ -146,13 +143,13 @@ balanced_turn n t ts (closes {m = m} e k b) = (m, inr (inl (e, k)))
 balanced_turn n t ts (neither e f b) = (n, inr (inr (e, f, refl)))
 
 balanced_once : (n : ℕ) (f g r s : List Read) → f ++ punctuation 41 ∷ r ≡ g ++ punctuation 41 ∷ s → IsBalanced n f → IsBalanced n g → (f ≡ g) × (r ≡ s)
-balanced_once n [] [] r s e a b = (refl, tails e)
-balanced_once n [] (y ∷ g) r s e a b = absurd (ends_closed n y g (sym (heads e)) a b)
-balanced_once n (x ∷ f) [] r s e a b = absurd (ends_closed n x f (heads e) b a)
+balanced_once n [] [] r s e a b = (refl, cons_tail e)
+balanced_once n [] (y ∷ g) r s e a b = absurd (ends_closed n y g (sym (cons_head e)) a b)
+balanced_once n (x ∷ f) [] r s e a b = absurd (ends_closed n x f (cons_head e) b a)
 balanced_once n (x ∷ f) (y ∷ g) r s e a b =
-    let same : x ≡ y = heads e in
+    let same : x ≡ y = cons_head e in
     let turn = balanced_turn n x f a in
-    let rest = balanced_once turn.0 f g r s (tails e) (after_token n turn.0 x f turn.1 a)
+    let rest = balanced_once turn.0 f g r s (cons_tail e) (after_token n turn.0 x f turn.1 a)
     (after_token n turn.0 x g turn.1 (subst (λ (t : Read). IsBalanced n (t ∷ g)) (sym same) b)) in
     (λ i. same i ∷ rest.0 i, rest.1)
 
@@ -166,9 +163,9 @@ kinds w v e = (let n : ◌≡◌ {A = ℕ} 0 2 = ap (λ (t : Read). t.0) e in ab
 -- an argument that a parenthesis begins is a form up to the one that closes
 pub front_closes : (known : List Named) (ts : List Read) (a : Argument) (rest : List Read) → IsFront known (punctuation 40 ∷ ts) a rest
     → (form : List Read) × (a ≡ enclosed form) × IsForm form × Closes 0 ts form rest
-front_closes known ts (by_name w) rest h = absurd (kinds w (40 ∷ []) (sym (heads h.tokens_are)))
+front_closes known ts (by_name w) rest h = absurd (kinds w (40 ∷ []) (sym (cons_head h.tokens_are)))
 front_closes known ts (enclosed form) rest h =
-    (form, refl, h.is_argument.0, record { tokens_are = tails h.tokens_are ∙ append_assoc form (punctuation 41 ∷ []) rest; balanced = h.is_argument.1 })
+    (form, refl, h.is_argument.0, record { tokens_are = cons_tail h.tokens_are ∙ append_assoc form (punctuation 41 ∷ []) rest; balanced = h.is_argument.1 })
 
 pub no_front_unclosed : (known : List Named) (ts : List Read) → HasNoClosing ts → HasNoFront known (punctuation 40 ∷ ts)
 no_front_unclosed known ts none a rest h = (let closed = front_closes known ts a rest h in none closed.0 rest closed.3)
@@ -189,11 +186,11 @@ front_enclosed known ts form after found is_form =
 pub front_once : (known : List Named) (ts : List Read) (a b : Argument) (r s : List Read) → IsFront known ts a r → IsFront known ts b s → (a ≡ b) × (r ≡ s)
 front_once known ts (by_name w) (by_name v) r s h k =
     let whole = sym h.tokens_are ∙ k.tokens_are in
-    (ap (λ (t : Read). by_name t.1) (heads whole), tails whole)
-front_once known ts (by_name w) (enclosed g) r s h k = absurd (kinds w (40 ∷ []) (heads (sym h.tokens_are ∙ k.tokens_are)))
-front_once known ts (enclosed f) (by_name v) r s h k = absurd (kinds v (40 ∷ []) (sym (heads (sym h.tokens_are ∙ k.tokens_are))))
+    (ap (λ (t : Read). by_name t.1) (cons_head whole), cons_tail whole)
+front_once known ts (by_name w) (enclosed g) r s h k = absurd (kinds w (40 ∷ []) (cons_head (sym h.tokens_are ∙ k.tokens_are)))
+front_once known ts (enclosed f) (by_name v) r s h k = absurd (kinds v (40 ∷ []) (sym (cons_head (sym h.tokens_are ∙ k.tokens_are))))
 front_once known ts (enclosed f) (enclosed g) r s h k =
-    let whole = tails (sym h.tokens_are ∙ k.tokens_are) in
+    let whole = cons_tail (sym h.tokens_are ∙ k.tokens_are) in
     let once = balanced_once 0 f g r s (sym (append_assoc f (punctuation 41 ∷ []) r) ∙ whole ∙ append_assoc g (punctuation 41 ∷ []) s) h.is_argument.1 k.is_argument.1 in
     (ap enclosed once.0, once.1)
 
@@ -201,7 +198,7 @@ first_argument : (known : List Named) (ts : List Read) (t : Read) (all : List Ar
     → (a : Argument) × (more : List Argument) × (all ≡ a ∷ more) × (t ≡ punctuation 44) × IsFront known ts a (further_arguments more) × AllByRecursion IsArgument more × AllByRecursion (IsKnownArgument known) more
 first_argument known ts t [] h = absurd (let e : t ∷ ts ≡ [] = h.tokens_are in cc)
 first_argument known ts t (a ∷ more) h =
-    (a, more, refl, heads h.tokens_are, record { tokens_are = tails h.tokens_are; is_argument = h.are_arguments.0; is_known = h.are_known.0 }, h.are_arguments.1, h.are_known.1)
+    (a, more, refl, cons_head h.tokens_are, record { tokens_are = cons_tail h.tokens_are; is_argument = h.are_arguments.0; is_known = h.are_known.0 }, h.are_arguments.1, h.are_known.1)
 
 rest_none : (known : List Named) → IsRest known [] []
 rest_none known = record { tokens_are = refl; are_arguments = tt; are_known = tt }
@@ -350,8 +347,8 @@ word_text e = ap (λ (t : Read). t.1) e
 pub no_applied : (known : List Named) (ts : List Read) → HasNoArguments known ts → HasNoLast known (spec.apply_word ∷ ts)
 no_applied known ts none no_last h = h
 no_applied known ts none (applied args) h =
-    none args (record { tokens_are = tails h.0.tokens_are; are_arguments = h.0.well_written; are_known = h.1 })
-no_applied known ts none (given_out names) h = words_apart (word_text (heads h.0.tokens_are))
+    none args (record { tokens_are = cons_tail h.0.tokens_are; are_arguments = h.0.well_written; are_known = h.1 })
+no_applied known ts none (given_out names) h = words_apart (word_text (cons_head h.0.tokens_are))
 
 pub is_applied : (known : List Named) (ts : List Read) (args : List Argument) → IsArguments known ts args → IsLast known (spec.apply_word ∷ ts) (applied args)
 is_applied known ts args h =
@@ -359,8 +356,8 @@ is_applied known ts args h =
 
 pub no_word : (known : List Named) (t : Read) (ts : List Read) → (t ≡ spec.apply_word → ⊥) → (t ≡ spec.gives_word → ⊥) → HasNoLast known (t ∷ ts)
 no_word known t ts a g no_last h = h
-no_word known t ts a g (applied args) h = a (heads h.0.tokens_are)
-no_word known t ts a g (given_out names) h = g (heads h.0.tokens_are)
+no_word known t ts a g (applied args) h = a (cons_head h.0.tokens_are)
+no_word known t ts a g (given_out names) h = g (cons_head h.0.tokens_are)
 
 pub no_tokens : (known : List Named) → HasNoLast known []
 no_tokens known no_last h = h
@@ -442,19 +439,15 @@ is_given known ts ws e =
 
 pub no_given : (known : List Named) (ts : List Read) → spec.known_names known ts ≡ None → HasNoLast known (spec.gives_word ∷ ts)
 no_given known ts none no_last h = h
-no_given known ts none (applied args) h = words_apart (word_text (sym (heads h.0.tokens_are)))
+no_given known ts none (applied args) h = words_apart (word_text (sym (cons_head h.0.tokens_are)))
 no_given known ts none (given_out names) h =
-    let found = ap (spec.known_names known) (tails h.0.tokens_are) ∙ names_found known names h.0.well_written h.1 in
+    let found = ap (spec.known_names known) (cons_tail h.0.tokens_are) ∙ names_found known names h.0.well_written h.1 in
     let clash : None ≡ Some names = sym none ∙ found in
     cc
 
 pub false_case : (P : Type 0) {Q : Type 0} (b : Bool) → MatchBool b P Q → b ≡ false → Q
 false_case P true h e = absurd (true≢false e)
 false_case P false h e = h
-
-pub empty_list : {A B : Type 0} (f : A → B) (xs : List A) → map f xs ≡ [] → length xs ≡ 0
-empty_list f [] e = refl
-empty_list f (x ∷ xs) e = absurd (let h : f x ∷ map f xs ≡ [] = e in cc)
 
 -- the tokens after the first of an argument, and those after all of it
 pub front_after : {E : Type 0} (known : List Named) (first : Token) (rest : List Token) (r : Result (Option Argued) E)

@@ -31,19 +31,11 @@ use Rattle.derivation_text.specs.Bare.{HasNoContexts}
 use Rattle.derivation_text.specs.Valid.{nothing_around, scope_at, ReadsAlone}
 use Rattle.derivation_text.specs.Found as found
 use Rattle.derivation_text.specs.Found.{IsClosedForm, HasNoJudgment}
+use Rattle.binding_terms.proofs.Lists.{all_at, matched}
 
 no_meta : {A : Type 0} (m : ℕ) {decl : MetaDecl} → slice_get {X = MetaDecl} [] m ≡ Some decl → A
 no_meta zero e = absurd (cc)
 no_meta (suc m) e = absurd (cc)
-
-pub all_at : {A : Type 0} (P : A → Type 0) (xs : List A) (n : ℕ) (x : A) → AllByRecursion P xs → slice_get xs n ≡ Some x → P x
-all_at P [] zero x all e = absurd (cc)
-all_at P [] (suc n) x all e = absurd (cc)
-all_at P (y ∷ ys) zero x all e = (let same : y ≡ x = cc in subst P same all.0)
-all_at P (y ∷ ys) (suc n) x all e = all_at P ys n x all.1 e
-
-pub matched : {A : Type 0} (Q : A → Type 0) (o : Option A) (x : A) → o ≡ Some x → Q x → MatchOption o ⊥ Q
-matched Q o x e h = subst (λ (r : Option _). MatchOption r ⊥ Q) (sym e) h
 
 -- In a theory in which no slot binds, a form without names is a term without variables.
 module _ (sig : Signature) (plain : IsPlainSignature sig) where

@@ -18,14 +18,7 @@ use Rattle.derivation_text.specs.declared.derivs.Named.{Named}
 use Rattle.derivation_text.proofs.NodeLemmas.{parts_once}
 use Rattle.derivation_text.proofs.CitedLemmas.{cited_from, cited_to}
 use Rattle.derivation_text.proofs.FormLemmas.{reads_closed}
-
-pub none_of : {A B : Type 0} (f : A → B) (o : Option A) (p : Option B) → option_map f o ≡ p → is_some o ≡ false → p ≡ None
-none_of f None p e h = sym e
-none_of f (Some a) p e h = absurd (true≢false h)
-
-pub some_of : {A B : Type 0} (f : A → B) (o : Option A) (p : Option B) → option_map f o ≡ p → is_some o ≡ true → p ≡ None → ⊥
-some_of f None p e h n = true≢false (sym h)
-some_of f (Some a) p e h n = (let k : Some (f a) ≡ None = e ∙ n in cc)
+use Rattle.binding_terms.proofs.Lists.{some_once}
 
 -- the judgment of a line is one
 pub value_judged : (th : Theory) → HasNoContexts th → (ts : List Token) (v : JudgmentValue) → HasValue th ts v → IsJudgment th v
@@ -94,27 +87,6 @@ no_tree_named th known ts name form r rest parts none one h =
     (subst (λ (x : List ℕ). IsPartsTree th known h.form x rest one.tree) once.2
     (subst (λ (x : List Token). IsPartsTree th known h.form h.rule x one.tree) once.3 tree)))
 
--- the place of the first that passes, in a view of a list
-place_map : {A B : Type 0} (f : A → B) (p : B → Bool) (xs : List A) → position_or_len p (map f xs) ≡ position_or_len (λ x. p (f x)) xs
-place_map f p xs = is_position_or_len (λ ys. position_or_len p (map f ys)) (λ x. p (f x)) refl (λ x ys. step (p (f x)) (position_or_len p (map f ys))) xs where
-  step : (b : Bool) (n : ℕ) → cond (not b) (1 + n) 0 ≡ cond b 0 (1 + n)
-  step true n = refl
-  step false n = refl
-
-pub position_map : {A B : Type 0} (f : A → B) (p : B → Bool) (xs : List A) → position p (map f xs) ≡ position (λ x. p (f x)) xs
-position_map f p xs =
-    let place = place_map f p xs in
-    let size = length-map xs f in
-    λ i. cond (nat_lt (place i) (size i)) (Some (place i)) None
-
-pub none_case : {A : Type 0} {P : Type 0} (Q : A → Type 0) (o : Option A) → MatchOption o P Q → o ≡ None → P
-none_case Q None h e = h
-none_case Q (Some a) h e = absurd (cc)
-
-pub some_case : {A : Type 0} (P : Type 0) (Q : A → Type 0) (o : Option A) (a : A) → MatchOption o P Q → o ≡ Some a → Q a
-some_case P Q None a h e = absurd (cc)
-some_case P Q (Some b) a h e = subst Q (let k : Some b ≡ Some a = e in cc) h
-
 pub answer_map : {A E : Type 0} {P P2 : Type 0} {Q Q2 : A → Type 0} (r : Result (Option A) E) → (P → P2) → ((a : A) → Q a → Q2 a)
     → IfOk r (λ found. MatchOption found P Q) → IfOk r (λ found. MatchOption found P2 Q2)
 answer_map (Ok None) f g h = f h
@@ -129,9 +101,6 @@ scheme_once th ts s t a b =
 
 pub value_once : (th : Theory) (ts : List Token) (v w : JudgmentValue) → HasValue th ts v → HasValue th ts w → v ≡ w
 value_once th ts v w a b = a.value ∙ ap (judgment_at nothing_around.value) (scheme_once th ts a.scheme b.scheme a.reads b.reads) ∙ sym b.value
-
-pub some_once : {A : Type 0} {a b : A} {o : Option A} → o ≡ Some a → o ≡ Some b → a ≡ b
-some_once {a = a} {b = b} e f = (let k : Some a ≡ Some b = sym e ∙ f in cc)
 
 pub no_parts_tree : (th : Theory) (known : List Named) (form : List Token) (r : List ℕ) (rest : List Token) (number : ℕ) (v : JudgmentValue) (ds : List Derivation) → HasValue th form v
     → rule_named th.rules r ≡ Some number → cited_trees known rest ≡ Some ds → HasNoTree th number v ds → HasNoPartsTree th known form r rest

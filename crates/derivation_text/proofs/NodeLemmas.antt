@@ -7,6 +7,7 @@ use Rattle.std.specs.List.{AllByRecursion}
 use Rattle.rule_schemes.specs.Reading.{Token, word}
 use Rattle.derivation_text.specs.Forms.{is_reserved, is_name, is_own_name, is_reserved_token, colon}
 use Rattle.derivation_text.specs.Found.{is_name_token, is_own_name_token, StopsForm, IsCut, HasParts, HasFormParts, HasNoParts, HasNoFormParts}
+use Rattle.binding_terms.proofs.Lists.{cons_head, cons_tail}
 
 abbrev NoneReserved : List Token → Type 0
 NoneReserved ts = AllByRecursion (λ t. IsFalse (is_reserved_token t)) ts
@@ -14,19 +15,13 @@ NoneReserved ts = AllByRecursion (λ t. IsFalse (is_reserved_token t)) ts
 clash : {b : Bool} → IsTrue b → IsFalse b → {A : Type 0} → A
 clash t f = absurd (true≢false (sym t ∙ f))
 
-pub tails : {A : Type 0} {x y : A} {xs ys : List A} → x ∷ xs ≡ y ∷ ys → xs ≡ ys
-tails e = cc
-
-pub heads : {A : Type 0} {x y : A} {xs ys : List A} → x ∷ xs ≡ y ∷ ys → x ≡ y
-heads e = cc
-
 pub cut_once : (a b c d : List Token) → a ++ b ≡ c ++ d → NoneReserved a → StopsForm b → NoneReserved c → StopsForm d → (a ≡ c) × (b ≡ d)
 cut_once [] b [] d e na sb nc sd = (refl, e)
 cut_once [] b (y ∷ c) d e na sb nc sd = clash (subst StopsForm e sb) nc.0
 cut_once (x ∷ a) b [] d e na sb nc sd = clash (subst StopsForm (sym e) sd) na.0
 cut_once (x ∷ a) b (y ∷ c) d e na sb nc sd =
-    let rest = cut_once a b c d (tails e) na.1 sb nc.1 sd in
-    let same : x ≡ y = heads e in
+    let rest = cut_once a b c d (cons_tail e) na.1 sb nc.1 sd in
+    let same : x ≡ y = cons_head e in
     let front : a ≡ c = rest.0 in
     (cc, rest.1)
 
@@ -49,17 +44,17 @@ pub no_parts_empty : (ts front back : List Token) → IsCut ts front back → fr
 no_parts_empty ts front back cut e form r rest h = h.form_is.some (sym (parts_of_cut ts front back form r rest cut h).0 ∙ e)
 
 pub no_parts_by : (ts front back : List Token) (a b c : Token) → IsCut ts front (a ∷ (b ∷ (c ∷ back))) → a ≢ word (codes "by") → HasNoFormParts ts
-no_parts_by ts front back a b c cut n form r rest h = n (heads (parts_of_cut ts front _ form r rest cut h).1)
+no_parts_by ts front back a b c cut n form r rest h = n (cons_head (parts_of_cut ts front _ form r rest cut h).1)
 
 pub no_parts_rule : (ts front back : List Token) (a b c : Token) → IsCut ts front (a ∷ (b ∷ (c ∷ back))) → b ≢ word (codes "rule") → HasNoFormParts ts
-no_parts_rule ts front back a b c cut n form r rest h = n (heads (tails (parts_of_cut ts front _ form r rest cut h).1))
+no_parts_rule ts front back a b c cut n form r rest h = n (cons_head (cons_tail (parts_of_cut ts front _ form r rest cut h).1))
 
 pub word_is_name : (w : List ℕ) → IsTrue (is_name w) → IsTrue (is_name_token (word w))
 word_is_name w h = h
 
 pub no_parts_name : (ts front back : List Token) (a b c : Token) → IsCut ts front (a ∷ (b ∷ (c ∷ back))) → is_name_token c ≡ false → HasNoFormParts ts
 no_parts_name ts front back a b c cut n form r rest h =
-    clash (subst (λ (t : Token). IsTrue (is_name_token t)) (sym (heads (tails (tails (parts_of_cut ts front _ form r rest cut h).1)))) (word_is_name r h.rule_is)) n
+    clash (subst (λ (t : Token). IsTrue (is_name_token t)) (sym (cons_head (cons_tail (cons_tail (parts_of_cut ts front _ form r rest cut h).1)))) (word_is_name r h.rule_is)) n
 
 pub and_left : (a b : Bool) → IsTrue (a && b) → IsTrue a
 and_left true b h = refl
@@ -101,14 +96,14 @@ no_parts_two ts short name form r rest h =
 
 pub no_parts_own : (a b : Token) (ts : List Token) → is_own_name_token a ≡ false → HasNoParts (a ∷ (b ∷ ts))
 no_parts_own a b ts n name form r rest h =
-    clash (subst (λ (t : Token). IsTrue (is_own_name_token t)) (sym (heads h.tokens_are)) h.own) n
+    clash (subst (λ (t : Token). IsTrue (is_own_name_token t)) (sym (cons_head h.tokens_are)) h.own) n
 
 pub no_parts_colon : (a b : Token) (ts : List Token) → b ≢ colon → HasNoParts (a ∷ (b ∷ ts))
-no_parts_colon a b ts n name form r rest h = n (heads (tails h.tokens_are))
+no_parts_colon a b ts n name form r rest h = n (cons_head (cons_tail h.tokens_are))
 
 pub no_parts_after : (a b : Token) (ts : List Token) → HasNoFormParts ts → HasNoParts (a ∷ (b ∷ ts))
 no_parts_after a b ts none name form r rest h =
-    none form r rest (record { tokens_are = tails (tails h.tokens_are); form_is = h.form_is; rule_is = h.rule_is })
+    none form r rest (record { tokens_are = cons_tail (cons_tail h.tokens_are); form_is = h.form_is; rule_is = h.rule_is })
 
 pub makes_parts : (a b : Token) (ts form : List Token) (r : List ℕ) (rest : List Token) → is_own_name_token a ≡ true → b ≡ colon → HasFormParts ts form r rest
     → HasParts (a ∷ (b ∷ ts)) a.1 form r rest
@@ -122,10 +117,6 @@ makes_parts a b ts form r rest h eb parts =
       rule_is = parts.rule_is;
     }
 
-pub empty_map : {A B : Type 0} (f : A → B) (xs : List A) → length xs ≡ 0 → map f xs ≡ []
-empty_map f [] e = refl
-empty_map f (x ∷ xs) e = absurd (omega arith)
-
 pub not_when : {b : Bool} {P : Type 0} → (IsTrue b ↔ P) → b ≡ false → P → ⊥
 not_when both f p = true≢false (sym (both.1 p) ∙ f)
 
@@ -138,5 +129,5 @@ pub parts_once : {ts : List Token} {name other : List ℕ} {form form2 : List To
 parts_once {form = form} {form2 = form2} {r = r} {r2 = r2} {rest = rest} {rest2 = rest2} a b =
     let whole = sym a.tokens_are ∙ b.tokens_are in
     let at = cut_once form (word (codes "by") ∷ (word (codes "rule") ∷ (word r ∷ rest))) form2 (word (codes "by") ∷ (word (codes "rule") ∷ (word r2 ∷ rest2)))
-    (tails (tails whole)) a.form_is.none_reserved by_stops b.form_is.none_reserved by_stops in
-    (ap (λ (t : Token). t.1) (heads whole), at.0, ap (λ (t : Token). t.1) (heads (tails (tails at.1))), tails (tails (tails at.1)))
+    (cons_tail (cons_tail whole)) a.form_is.none_reserved by_stops b.form_is.none_reserved by_stops in
+    (ap (λ (t : Token). t.1) (cons_head whole), at.0, ap (λ (t : Token). t.1) (cons_head (cons_tail (cons_tail at.1))), cons_tail (cons_tail (cons_tail at.1)))

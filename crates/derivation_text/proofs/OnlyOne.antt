@@ -11,10 +11,10 @@ use Rattle.derivation_text.specs.Laws.{TextsAreUnique, TextGivesInputs, InputsAr
 use Rattle.derivation_text.specs.Lines.{Line, text_lines}
 use Rattle.derivation_text.specs.Valid.{Around, Contents, Last, no_last, applied, given_out, nothing_around, IsLast, AreValid}
 use Rattle.derivation_text.specs.declared.derivs.Named.{Named}
-use Rattle.derivation_text.proofs.NodeLemmas.{heads, tails}
 use Rattle.derivation_text.proofs.EndingLemmas.{front_once, words_apart, word_text}
 use Rattle.derivation_text.proofs.ReaderLemmas.{names_once, names_not_last, lines_of_text}
 use Rattle.derivation_text.proofs.InputLemmas.{one_inputs}
+use Rattle.binding_terms.proofs.Lists.{cons_head, cons_tail}
 
 rest_once : (known : List Named) (ts : List Token) (a b : List Argument) → IsRest known ts a → IsRest known ts b → a ≡ b
 rest_once known ts [] [] h k = refl
@@ -23,7 +23,7 @@ rest_once known ts (a ∷ as_is) [] h k = absurd (let e : [] ≡ punctuation 44 
 rest_once known ts (a ∷ more) (b ∷ bs) h k =
     let once = front_once known (argument_tokens a ++ further_arguments more) a b (further_arguments more) (further_arguments bs)
     (record { tokens_are = refl; is_argument = h.are_arguments.0; is_known = h.are_known.0 })
-    (record { tokens_are = tails (sym h.tokens_are ∙ k.tokens_are); is_argument = k.are_arguments.0; is_known = k.are_known.0 }) in
+    (record { tokens_are = cons_tail (sym h.tokens_are ∙ k.tokens_are); is_argument = k.are_arguments.0; is_known = k.are_known.0 }) in
     let rest = rest_once known (further_arguments more) more bs (record { tokens_are = refl; are_arguments = h.are_arguments.1; are_known = h.are_known.1 })
     (record { tokens_are = once.1; are_arguments = k.are_arguments.1; are_known = k.are_known.1 }) in
     λ i. once.0 i ∷ rest i
@@ -49,8 +49,8 @@ further_once [] [] e = refl
 further_once [] (v ∷ vs) e = absurd (cc)
 further_once (w ∷ ws) [] e = absurd (cc)
 further_once (w ∷ ws) (v ∷ vs) e =
-    let first = word_text (heads (tails e)) in
-    let rest = further_once ws vs (tails (tails e)) in
+    let first = word_text (cons_head (cons_tail e)) in
+    let rest = further_once ws vs (cons_tail (cons_tail e)) in
     λ i. first i ∷ rest i
 
 names_tokens_once : (ws vs : List (List ℕ)) → names_tokens ws ≡ names_tokens vs → ws ≡ vs
@@ -58,21 +58,21 @@ names_tokens_once [] [] e = refl
 names_tokens_once [] (v ∷ vs) e = absurd (cc)
 names_tokens_once (w ∷ ws) [] e = absurd (cc)
 names_tokens_once (w ∷ ws) (v ∷ vs) e =
-    let first = word_text (heads e) in
-    let rest = further_once ws vs (tails e) in
+    let first = word_text (cons_head e) in
+    let rest = further_once ws vs (cons_tail e) in
     λ i. first i ∷ rest i
 
 last_once : (known : List Named) (ts : List Token) (a b : Last) → IsLast known ts a → IsLast known ts b → a ≡ b
 last_once known ts no_last b h k = absurd h
 last_once known ts (applied a) no_last h k = absurd k
 last_once known ts (given_out ws) no_last h k = absurd k
-last_once known ts (applied a) (given_out vs) h k = absurd (words_apart (word_text (heads (sym h.0.tokens_are ∙ k.0.tokens_are))))
-last_once known ts (given_out ws) (applied b) h k = absurd (words_apart (word_text (heads (sym k.0.tokens_are ∙ h.0.tokens_are))))
-last_once known ts (given_out ws) (given_out vs) h k = ap given_out (names_tokens_once ws vs (tails (sym h.0.tokens_are ∙ k.0.tokens_are)))
+last_once known ts (applied a) (given_out vs) h k = absurd (words_apart (word_text (cons_head (sym h.0.tokens_are ∙ k.0.tokens_are))))
+last_once known ts (given_out ws) (applied b) h k = absurd (words_apart (word_text (cons_head (sym k.0.tokens_are ∙ h.0.tokens_are))))
+last_once known ts (given_out ws) (given_out vs) h k = ap given_out (names_tokens_once ws vs (cons_tail (sym h.0.tokens_are ∙ k.0.tokens_are)))
 last_once known ts (applied a) (applied b) h k =
     ap applied
     (arguments_once known (arguments_tokens a) a b (record { tokens_are = refl; are_arguments = h.0.well_written; are_known = h.1 })
-    (record { tokens_are = tails (sym h.0.tokens_are ∙ k.0.tokens_are); are_arguments = k.0.well_written; are_known = k.1 }))
+    (record { tokens_are = cons_tail (sym h.0.tokens_are ∙ k.0.tokens_are); are_arguments = k.0.well_written; are_known = k.1 }))
 
 module _ (th : Theory) (bare : HasNoContexts th) (so_far : IsSystemSoFar th) where
   valid_once : (lines : List Line) (known : List Named) (c d : Contents) → AreValid th nothing_around known lines c → AreValid th nothing_around known lines d → c ≡ d

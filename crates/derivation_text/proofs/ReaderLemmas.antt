@@ -16,7 +16,6 @@ use Rattle.rule_schemes.specs.Rules.{Theory, JudgmentValue, IsSystemSoFar}
 use Rattle.rule_schemes.specs.Derivation.{Derivation, Derives, node, leaf, AllDerive as SubtreesDerive, IsNode}
 use Rattle.rule_schemes.specs.Reading.{Token}
 use Rattle.rule_schemes.specs.Said.{Want, want_context}
-use Rattle.rule_schemes.proofs.PlainLemmas.{AllByRecursion-append}
 use Rattle.derivation_check.specs.Parts.{subtrees_of}
 use Rattle.derivation_text.specs.Bare.{HasNoContexts}
 use Rattle.derivation_text.specs.Ending.{HasNoLast}
@@ -25,15 +24,16 @@ use Rattle.derivation_text.specs.Found.{AllDerive, HasNoNamedTree}
 use Rattle.derivation_text.specs.Lines.{Line, text_lines}
 use Rattle.derivation_text.specs.Valid.{Around, Contents, Last, no_last, applied, given_out, nothing_around, NamesTree, IsMade, IsLast, AreValid, contexts_if, contexts_from, GivesContext, Begins, without_context, with_context, IsText}
 use Rattle.derivation_text.specs.declared.derivs.Named.{Named}
-use Rattle.derivation_text.proofs.NodeLemmas.{heads, and_right}
+use Rattle.derivation_text.proofs.NodeLemmas.{and_right}
 use Rattle.derivation_text.proofs.CitedLemmas.{cited_derive}
 use Rattle.derivation_text.proofs.RuleLemmas.{no_leaf}
-use Rattle.derivation_text.proofs.LineLemmas.{says_parts, parts_tree, value_once, some_once}
+use Rattle.derivation_text.proofs.LineLemmas.{says_parts, parts_tree, value_once}
 use Rattle.derivation_text.proofs.NodeLemmas.{parts_once}
 use Rattle.derivation_text.specs.Found.{IsPartsTree}
 use Rattle.derivation_text.specs.Forms.{on_tokens}
 use Rattle.sy_base.specs.TokenLaws.{TokensAreUnique}
 use Rattle.rule_schemes.specs.Derivation.{Subtrees}
+use Rattle.binding_terms.proofs.Lists.{all_push, cons_head, some_once}
 
 -- from all lines one comes to these names and to the lines that are left
 abbrev pub Reaches : Theory → List Line → List Named → List Line → Type 0
@@ -46,9 +46,9 @@ not_own w among h = absurd (true≢false (sym (and_right (is_name w) (not (is_am
 pub names_not_last : (th : Theory) (known : List Named) (ts : List Token) (one : Named) (last : Last) → NamesTree th nothing_around known ts one → IsLast known ts last → ⊥
 names_not_last th known ts one no_last h k = k
 names_not_last th known ts one (applied args) h k =
-    not_own APPLY refl (subst (λ (w : List ℕ). IsTrue (is_own_name w)) (ap (λ (t : Token). t.1) (heads (sym h.says.tokens_are ∙ k.0.tokens_are))) h.says.well_written.0)
+    not_own APPLY refl (subst (λ (w : List ℕ). IsTrue (is_own_name w)) (ap (λ (t : Token). t.1) (cons_head (sym h.says.tokens_are ∙ k.0.tokens_are))) h.says.well_written.0)
 names_not_last th known ts one (given_out names) h k =
-    not_own GIVES refl (subst (λ (w : List ℕ). IsTrue (is_own_name w)) (ap (λ (t : Token). t.1) (heads (sym h.says.tokens_are ∙ k.0.tokens_are))) h.says.well_written.0)
+    not_own GIVES refl (subst (λ (w : List ℕ). IsTrue (is_own_name w)) (ap (λ (t : Token). t.1) (cons_head (sym h.says.tokens_are ∙ k.0.tokens_are))) h.says.well_written.0)
 
 module _ (th : Theory) (bare : HasNoContexts th) (so_far : IsSystemSoFar th) where
   made_node : (r : ℕ) (v : JudgmentValue) (ds : List Derivation) (d : Derivation) → IsMade th r v ds d → d ≡ node r v (subtrees_of ds)
@@ -95,7 +95,7 @@ module _ (th : Theory) (bare : HasNoContexts th) (so_far : IsSystemSoFar th) whe
 
   pub names_derive : (known : List Named) (ts : List Token) (one : Named) → AllDerive th known → NamesTree th nothing_around known ts one → AllDerive th (known ++ one ∷ [])
   names_derive known ts one all h =
-      AllByRecursion-append (λ x. Derives th x.tree) known one all
+      all_push (λ x. Derives th x.tree) known one all
       (made_derives h.valid.number _ h.valid.trees one.tree (cited_derive th known h.cited h.valid.trees all h.valid.earlier) h.valid.makes)
 
 pub reaches_none : (th : Theory) (all : List Line) → Reaches th all [] all
@@ -153,10 +153,6 @@ pub lines_of_text : (th : Theory) → HasNoContexts th → TokensAreUnique → (
 lines_of_text th bare unique source tokens around c are text =
     let at = lines_of th bare (text_lines text.tokens) text.lines.rest around c text.lines.begins text.lines.valid in
     (at.0, subst (λ (ts : List PlainToken). AreValid th nothing_around [] (text_lines ts) c) (unique source text.tokens tokens text.are_tokens are) at.1)
-
-pub option_case : {A : Type 0} {P P2 : Type 0} {Q Q2 : A → Type 0} (o : Option A) → (P → P2) → ((a : A) → Q a → Q2 a) → MatchOption o P Q → MatchOption o P2 Q2
-option_case None f g h = f h
-option_case (Some a) f g h = g a h
 
 rest_is : (tokens : List Lexed) (at : ℕ) → take (length tokens - at) (drop at tokens) ≡ drop at tokens
 rest_is tokens at = take_all (length tokens - at) (drop at tokens) (omega (arith, length-drop at tokens))

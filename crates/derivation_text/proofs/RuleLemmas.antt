@@ -20,13 +20,13 @@ use Rattle.binding_terms.specs.declared.grammar.CatId.{CatId}
 use Rattle.rule_schemes.specs.declared.rule.Judgment.{Judgment}
 use Rattle.rule_schemes.specs.Rules.{JudgmentScheme, JudgmentValue, Rule, Theory, IsJudgment, IsJudgmentScheme, IsRootOf, IsAssumption, IsOneEntry, IsItsEntry, IsSystemSoFar, RuleFits, StrictInJudgment, StrictInRule, argument_slots, root_of, rule_names}
 use Rattle.rule_schemes.specs.Derivation.{Derivation, node, leaf, judgment, Subtrees, Derives, IsNodeOf, IsLeaf, AreInstances}
-use Rattle.rule_schemes.proofs.PlainLemmas.{found}
 use Rattle.rule_schemes.proofs.DerivationLemmas.{derives_a_judgment}
 use Rattle.derivation_check.specs.Parts.{subtrees_of}
 use Rattle.scheme_match.specs.Matching.{judgments, Matching, ArgumentsFit, MakesEqual, IsMatch, IsOnlyMatch, StrictInPair, AreStrict}
 use Rattle.derivation_text.specs.Bare.{HasNoContexts}
 use Rattle.derivation_text.specs.Making.{premise_pairs, with_premises, PremiseFits, HasNoTree}
 use Rattle.derivation_text.specs.Valid.{IsMade, nothing_around}
+use Rattle.binding_terms.proofs.Lists.{all_found, match_same, numbered_weaker, zip_empty}
 
 abbrev no_value : ContextValue
 no_value = nothing_around.value
@@ -35,18 +35,6 @@ root_closed : (root : Root) → IsRootOf None root → root ≡ Closed
 root_closed Closed h = refl
 root_closed (Empty c) h = absurd h
 root_closed (Whole c) h = absurd h
-
-both : {A : Type 0} {P Q : A → Type 0} (o : Option A) → MatchOption o ⊥ P → MatchOption o ⊥ Q → (x : A) × P x × Q x
-both None p q = absurd p
-both (Some x) p q = (x, p, q)
-
-numbered : {A : Type 0} {P Q : ℕ → A → Type 0} → ((n : ℕ) (a : A) → P n a → Q n a) → (n : ℕ) (xs : List A) → AllNumbered P n xs → AllNumbered Q n xs
-numbered f n [] all = tt
-numbered f n (x ∷ xs) all = (f n x all.0, numbered f _ xs all.1)
-
-empty_zip : {A B : Type 0} (R : A → B → Type 0) (ys : List B) → AllZip R [] ys → ys ≡ []
-empty_zip R [] h = refl
-empty_zip R (y ∷ ys) h = absurd h
 
 any_pair : (m : ℕ) (ps : List JudgmentScheme) (ds : List Derivation) → length ps ≡ length ds → AnyByRecursion (StrictInJudgment m) ps
     → AnyByRecursion (StrictInPair m) (premise_pairs ps ds)
@@ -81,13 +69,13 @@ module _ (th : Theory) (bare : HasNoContexts th) where
 
   pub form_closed : (names : Names) (j : JudgmentScheme) → IsJudgmentScheme th names j → (j.context.root ≡ Closed) × (j.context.entries ≡ [])
   form_closed names j h =
-      let at = found th.judgments j.judgment bare.judgments h in
+      let at = all_found th.judgments j.judgment bare.judgments h in
       let root : j.context.root ≡ Closed = root_closed j.context.root (subst (λ (ctx : Option CatId). IsRootOf ctx j.context.root) at.1 at.2.0) in
       (root, subst (λ (r : Root). AreExplicitEntries th.sig names r j.context.entries) root at.2.1)
 
   pub value_closed : (v : JudgmentValue) → IsJudgment th v → v.context ≡ no_value
   value_closed v h =
-      let at = found th.judgments v.judgment bare.judgments h in
+      let at = all_found th.judgments v.judgment bare.judgments h in
       let value = subst (λ (ctx : Option CatId). IsValue th.sig (root_of ctx) v.context) at.1 at.2.0 in
       λ i. record { cat = value.0 i; entries = value.1 i }
 
@@ -95,7 +83,7 @@ module _ (th : Theory) (bare : HasNoContexts th) where
       → j.judgment ≡ v.judgment → ArgumentsFit th.sig names.metas j v
   arguments_fit names j v none h k e =
       let there : MatchOption (slice_get th.judgments v.judgment) ⊥ (FormFits names j) = subst (λ (n : ℕ). MatchOption (slice_get th.judgments n) ⊥ (FormFits names j)) e h in
-      let at = both (slice_get th.judgments v.judgment) there k in
+      let at = match_same (slice_get th.judgments v.judgment) there k in
       let form = at.0 in
       record {
         names = names;
@@ -130,7 +118,7 @@ module _ (th : Theory) (bare : HasNoContexts th) where
   strict_pairs r v ds m fits e (inr h) = elim h.1 [ inl any ↦ inr (any_pair m r.premises ds e any) | inr here ↦ inl here ]
 
   pub are_strict : (r : Rule) (v : JudgmentValue) (ds : List Derivation) → RuleFits th r → length r.premises ≡ length ds → AreStrict (rule_matching r v ds)
-  are_strict r v ds fits e = numbered (λ m decl h. strict_pairs r v ds m fits e h) 0 r.metas fits.strict
+  are_strict r v ds fits e = numbered_weaker (λ m decl h. strict_pairs r v ds m fits e h) 0 r.metas fits.strict
 
   from_match : (r : Rule) (v : JudgmentValue) (ds : List Derivation) (inst : Instance) → RuleFits th r → length r.premises ≡ length ds → v.context ≡ no_value
       → IsMatch (rule_matching r v ds) inst → IsNodeOf th v (subtrees_of ds) r
@@ -155,7 +143,7 @@ module _ (th : Theory) (bare : HasNoContexts th) where
       record {
         root = n.root ∙ ctx;
         metas = n.scope.metas;
-        knowns = empty_zip (IsKnownPlace n.inst) n.inst.knowns n.scope.knowns;
+        knowns = zip_empty (IsKnownPlace n.inst) n.inst.knowns n.scope.knowns;
         pairs = (n.conclusion, instances_to n.inst r.premises ds n.premises);
       }
 
@@ -176,7 +164,7 @@ module _ (th : Theory) (bare : HasNoContexts th) where
 
   pub no_leaf : (so_far : IsSystemSoFar th) (r : ℕ) (v : JudgmentValue) (place : ℕ) → IsLeaf th r v place → ⊥
   no_leaf so_far r v place h =
-      let at = found th.rules r so_far.rules h in
+      let at = all_found th.rules r so_far.rules h in
       let its = at.0 in
       subst (λ (root : Root). IsItsEntry at.2.inst place root its.conclusion.context.entries) (form_closed (rule_names its) its.conclusion at.1.forms.conclusion).0 at.2.entry
 

@@ -19,10 +19,6 @@ pub smaller : (args : List Arg) (i : ℕ) (a : Arg) → i < length args → a �
     → nodes (tree (get_or args i a).body) ≤ arg_nodes (args_tree args)
 smaller args i a h e = subst (λ (x : Arg). nodes (tree x.body) ≤ arg_nodes (args_tree args)) e (nodes_at args i a h e)
 
--- the element at an index, and those after it
-pub list_from : {X : Type 0} (xs : List X) (i : ℕ) (x : X) → i < length xs → x ≡ get_or xs i x → drop i xs ≡ x ∷ drop (i + 1) xs
-list_from xs i x h is = drop_more xs i x h ∙ ap (λ y. y ∷ drop (i + 1) xs) (sym is)
-
 -- the item at an index, and those after it
 pub items_from : (items : List Item) (i : ℕ) (item x : Item) → i < length items → item ≡ get_or items i item → item ≡ x
     → drop i items ≡ x ∷ drop (i + 1) items

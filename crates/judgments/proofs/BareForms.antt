@@ -21,10 +21,10 @@ use Rattle.judgments.specs.Collected.{IsCollected, AreGathered}
 use Rattle.judgments.specs.Laws.{AreBareNames, ReadingsAreInScope}
 use Rattle.judgments.specs.Named.{IsNamed, AreNamesOf}
 use Rattle.judgments.specs.Written.{settled, ReadsOnlyAs}
-use Rattle.judgments.proofs.Collecting.{all_map}
-use Rattle.judgments.proofs.ReadingLemmas.{all_at, form_tokens, form_schemes}
+use Rattle.judgments.proofs.ReadingLemmas.{form_tokens, form_schemes}
 use Rattle.judgments.proofs.WordsOfForms.{joined, word_joined, joined_word, HasNoBracket, has_no_parameters, parameters_none}
 use Rattle.user_grammar.specs.Names.{IsCategoryWord}
+use Rattle.binding_terms.proofs.Lists.{all_at, all_map}
 
 the_want : (want : Want) → slice_get (want_judgment ∷ []) 0 ≡ Some want → want ≡ want_judgment
 the_want want e = (let same : Some want_judgment ≡ Some want = e in cc)

@@ -12,34 +12,8 @@ use Rattle.rule_schemes.specs.NewNames.{AreInOrder, StandsBefore}
 use Rattle.judgments.specs.Spellings.{IsNoSpelling}
 use Rattle.judgments.specs.Collected.{IsAmong, StandsIn, IsCollected, AreCollected, IsKept, IsAdded, AreNext, AreCollectedFrom, IsLonger}
 use Rattle.judgments.proofs.Spelling.{none_spelled}
-use Rattle.judgments.proofs.Zips.{map_append}
 use Rattle.user_grammar.specs.Names.{IsCategoryWord}
-
-pub any_front : {A : Type 0} (P : A → Type 0) (xs ys : List A) → AnyByRecursion P xs → AnyByRecursion P (xs ++ ys)
-any_front P [] ys h = absurd h
-any_front P (x ∷ xs) ys (inl h) = inl h
-any_front P (x ∷ xs) ys (inr h) = inr (any_front P xs ys h)
-
-pub any_back : {A : Type 0} (P : A → Type 0) (xs ys : List A) → AnyByRecursion P ys → AnyByRecursion P (xs ++ ys)
-any_back P [] ys h = h
-any_back P (x ∷ xs) ys h = inr (any_back P xs ys h)
-
-pub any_split : {A : Type 0} (P : A → Type 0) (xs ys : List A) → AnyByRecursion P (xs ++ ys) → AnyByRecursion P xs ⊎ AnyByRecursion P ys
-any_split P [] ys h = inr h
-any_split P (x ∷ xs) ys (inl h) = inl (inl h)
-any_split P (x ∷ xs) ys (inr h) = which (any_split P xs ys h)
-  where
-    which : AnyByRecursion P xs ⊎ AnyByRecursion P ys → AnyByRecursion P (x ∷ xs) ⊎ AnyByRecursion P ys
-    which (inl k) = inl (inr k)
-    which (inr k) = inr k
-
-pub all_append : {A : Type 0} (P : A → Type 0) (xs ys : List A) → AllByRecursion P xs → AllByRecursion P ys → AllByRecursion P (xs ++ ys)
-all_append P [] ys h k = k
-all_append P (x ∷ xs) ys h k = (h.0, all_append P xs ys h.1 k)
-
-pub all_map : {A : Type 0} (P Q : A → Type 0) → ((a : A) → P a → Q a) → (xs : List A) → AllByRecursion P xs → AllByRecursion Q xs
-all_map P Q f [] h = tt
-all_map P Q f (x ∷ xs) h = (f x h.0, all_map P Q f xs h.1)
+use Rattle.binding_terms.proofs.Lists.{all_append, all_map, any_back, any_front, any_split, map_append}
 
 before_more : (a b : List ℕ) (ts us : List Token) → StandsBefore a b ts → StandsBefore a b (ts ++ us)
 before_more a b [] us h = absurd h

@@ -24,7 +24,7 @@ use Rattle.judgments.specs.Written.{WrittenInput, IsTarget}
 use Rattle.judgments.proofs.StatementLemmas.{AreGiven}
 use Rattle.judgments.proofs.StatementSays.{all, one_statement}
 use Rattle.judgments.proofs.SystemLemmas.{forms_read}
-use Rattle.judgments.proofs.Zips.{zip_append, zip_split, zip_unique, zip_right, zip_both, zip_map}
+use Rattle.binding_terms.proofs.Lists.{append_empty_back, zip_append, zip_both, zip_left, zip_map, zip_right, zip_split, zip_unique}
 
 module _ {X : Type 0} (f : X → PlainPortion) (R : TheoremText → Theorem → Type 0) (xs : List X) where
   -- what is stated up to a portion, and what is left
@@ -126,12 +126,6 @@ even (t ∷ ts) h = (same ts h.1, even ts h.1)
     same [] k = tt
     same (u ∷ us) k = (λ g. ap length (k.0 ∙ sym h.0), same us k.1)
 
-left_all : {A B : Type 0} (R : A → B → Type 0) (P : A → Type 0) → ((a : A) (b : B) → R a b → P a) → (us : List A) (vs : List B) → AllZip R us vs → AllByRecursion P us
-left_all R P f [] [] h = tt
-left_all R P f [] (v ∷ vs) h = tt
-left_all R P f (u ∷ us) [] h = absurd h
-left_all R P f (u ∷ us) (v ∷ vs) h = (f u v h.0, left_all R P f us vs h.1)
-
 -- the statements of a file
 module _ (th : Theory) (bare : IsBareTheory th) (portions : List PlainPortion) where
   built_from : (sts : List Theorem) → AreStatementsOf portions th sts → AllByRecursion IsBareStatement sts → AllZip (IsBuiltTheorem th) (theorems_in 0 portions) sts
@@ -143,7 +137,7 @@ module _ (th : Theory) (bare : IsBareTheory th) (portions : List PlainPortion) w
     record {
       each = zip_map (IsBuiltTheorem th) (IsTheoremOf th) (λ t s b. b.0) (theorems_in 0 portions) sts h;
       theorem_names = apart;
-      targets = even (theorems_in 0 portions) (left_all (IsBuiltTheorem th) (λ (t : TheoremText). t.targets ≡ []) (built_targets th) (theorems_in 0 portions) sts h);
+      targets = even (theorems_in 0 portions) (zip_left (IsBuiltTheorem th) (λ (t : TheoremText). t.targets ≡ []) (built_targets th) (theorems_in 0 portions) sts h);
     },
     zip_right (IsBuiltTheorem th) IsBareStatement (λ t s b. b.1) (theorems_in 0 portions) sts h,
     λ others o b. zip_unique (IsBuiltTheorem th) (one_statement th bare) (theorems_in 0 portions) others sts (built_from others o b) h,
@@ -151,14 +145,6 @@ module _ (th : Theory) (bare : IsBareTheory th) (portions : List PlainPortion) w
 
   pub no_statements : ((sts : List Theorem) → AllZip (IsBuiltTheorem th) (theorems_in 0 portions) sts → ⊥) → (sts : List Theorem) → AreStatementsOf portions th sts → AllByRecursion IsBareStatement sts → ⊥
   no_statements none sts h k = none sts (built_from sts h k)
-
-nothing_before : {A : Type 0} (xs ys : List A) → xs ++ ys ≡ [] → xs ≡ []
-nothing_before [] ys e = refl
-nothing_before (x ∷ xs) ys e = (let never : x ∷ xs ++ ys ≡ [] = e in cc)
-
-nothing_after : {A : Type 0} (xs ys : List A) → xs ++ ys ≡ [] → ys ≡ []
-nothing_after [] ys e = e
-nothing_after (x ∷ xs) ys e = (let never : x ∷ xs ++ ys ≡ [] = e in absurd cc)
 
 -- the targets of a theorem, of its line `use` and of its first step
 abbrev pub targets_of : {X : Type 0} (now : X → of_token.Token) → List X → List PlainArgument → List PlainArgument
@@ -173,14 +159,10 @@ some_target now [] more h e = h refl
 some_target now (x ∷ xs) more h e = (let never : name_alone (token_view (now x)) ∷ targets_of now xs more ≡ [] = e in cc)
 
 pub first_step_target : {X : Type 0} (now : X → of_token.Token) (xs : List X) (more : List PlainArgument) → (more ≡ [] → ⊥) → targets_of now xs more ≢ []
-first_step_target now xs more h e = h (nothing_after (map name_alone (map token_view (map now xs))) more e)
+first_step_target now xs more h e = h (append_empty_back (map name_alone (map token_view (map now xs))) more e)
 
 pub none_assumed : {X : Type 0} (now : X → of_token.Token) (o : Option X) → o ≡ None → option_map token_view (option_map now o) ≡ None
 none_assumed now o e = ap (λ p. option_map token_view (option_map now p)) e
-
-pub none_when_not_some : {X : Type 0} (o : Option X) → Rattle.std.specs.Prelude.is_some o ≡ Rattle.std.proofs.Common.false → o ≡ None
-none_when_not_some None e = refl
-none_when_not_some (Some x) e = (let never : Rattle.std.proofs.Common.true ≡ Rattle.std.proofs.Common.false = e in cc)
 
 pub if_found : {V E : Type 0} (A C : Type 0) (P Q : V → Type 0) → (A → C) → ((v : V) → P v → Q v) → (r : Result (Option V) E) → IfOk r (λ o. MatchOption o A P) → IfOk r (λ o. MatchOption o C Q)
 if_found A C P Q f g (Ok None) h = f h

@@ -25,17 +25,11 @@ use Rattle.judgments.specs.Texts.{RuleText}
 use Rattle.judgments.specs.Theory.{IsBlockRule}
 use Rattle.judgments.specs.Written.{ReadsOnlyAs}
 use Rattle.judgments.proofs.BareForms.{HasUsed, form_in_scope}
-use Rattle.judgments.proofs.Collecting.{any_front, any_back, any_split}
 use Rattle.judgments.proofs.KeptNames.{any_at}
 use Rattle.judgments.proofs.OneRule.{Says, rule_says, plain_for, kept_of, all_front}
 use Rattle.judgments.proofs.RuleLemmas.{closed_names, numbered, no_context_read, over_closed}
 use Rattle.judgments.proofs.StatementLemmas.{place_front, among_at}
-use Rattle.judgments.proofs.Zips.{zip_both, zip_right}
-
-pub found_some : {A : Type 0} (P : A → Type 0) (xs : List A) (n : ℕ) → MatchOption (slice_get xs n) ⊥ P → (x : A) × P x
-found_some P [] n h = absurd h
-found_some P (x ∷ xs) zero h = (x, h)
-found_some P (x ∷ xs) (suc n) h = found_some P xs n h
+use Rattle.binding_terms.proofs.Lists.{any_back, any_front, any_map, any_split, found_some, zip_both, zip_right}
 
 -- where no name has parameters, each place of a name is strict
 module _ (sig : Signature) (names : Names) (plain : AllByRecursion (λ (d : MetaDecl). d.params ≡ []) names.metas) where
@@ -93,11 +87,6 @@ strict_judgment th names plain j h none m o = which (subst (λ (c : SchemeContex
     which : ⊥ ⊎ AnyByRecursion (OccursIn m) j.args → StrictInJudgment m j
     which (inl never) = absurd never
     which (inr a) = inr (args a)
-
-any_map : {A : Type 0} (P Q : A → Type 0) (xs : List A) → AllByRecursion (λ x. P x → Q x) xs → AnyByRecursion P xs → AnyByRecursion Q xs
-any_map P Q [] h a = a
-any_map P Q (x ∷ xs) h (inl a) = inl (h.0 a)
-any_map P Q (x ∷ xs) h (inr a) = inr (any_map P Q xs h.1 a)
 
 -- what stands in one of the judgments is kept, of each of them
 pub kept_each_of : (Q : ℕ → MetaDecl → Type 0) (P : ℕ → MetaDecl → Type 0) (zs : List JudgmentScheme)

@@ -18,8 +18,7 @@ use Rattle.user_grammar.specs.Names.{IsAmong, IsCategoryWord}
 use Rattle.judgments.specs.Built.{IsBuiltJudgment}
 use Rattle.judgments.specs.Texts.{JudgmentText, judgment_in, judgments_in}
 use Rattle.judgments.specs.Theory.{IsTerminalToken, IsItemOf}
-use Rattle.judgments.proofs.Collecting.{any_front, any_back, any_split}
-use Rattle.judgments.proofs.Zips.{zip_append, zip_split, map_append}
+use Rattle.binding_terms.proofs.Lists.{any_back, any_front, any_split, map_append, zip_append, zip_split}
 
 -- a word that is no numeral
 pub word_terminal : (sig : Signature) (portions : List PlainPortion) (token : PlainToken) (r : Bool) → token.kind ≡ 0 → IsNoSpelling sig.cats token.text

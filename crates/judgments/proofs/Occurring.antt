@@ -20,8 +20,8 @@ use Rattle.judgments.specs.Laws.{AreBareNames}
 use Rattle.judgments.specs.Named.{IsWordOf}
 use Rattle.judgments.specs.Written.{ReadsOnlyAs}
 use Rattle.judgments.proofs.BareForms.{reads_as}
-use Rattle.judgments.proofs.Collecting.{any_front, any_back}
-use Rattle.judgments.proofs.ReadingLemmas.{all_at, not_variable, bare_brackets, no_parameters}
+use Rattle.judgments.proofs.ReadingLemmas.{not_variable, bare_brackets, no_parameters}
+use Rattle.binding_terms.proofs.Lists.{all_at, any_back, any_front}
 
 -- the metavariable with this number stands in the tokens
 abbrev pub NumberStands : List MetaDecl → List Token → ℕ → Type 0

@@ -26,7 +26,7 @@ use Rattle.notation_parser.specs.Plain.{IsPlain}
 use Rattle.notation_parser.specs.View as parsed
 use Rattle.term_reader.specs.View as terms
 use Rattle.judgments.specs.Written.{settled, ReadsOnlyAs}
-use Rattle.judgments.proofs.ReadingLemmas.{all_at}
+use Rattle.binding_terms.proofs.Lists.{all_at}
 
 same_kind : (k : Kind) → lexed.kind_number k ≡ terms.kind_number k
 same_kind kinds.Word = refl

@@ -23,15 +23,14 @@ use Rattle.judgments.specs.Texts.{RuleText, rule_forms}
 use Rattle.judgments.specs.Theory.{IsBlockRule}
 use Rattle.judgments.specs.Written.{ReadsOnlyAs, names_over, OccursInRule}
 use Rattle.judgments.proofs.BareForms.{no_brackets_read, names_from, gathered_from}
-use Rattle.judgments.proofs.Collecting.{any_split, any_front, any_back, all_append}
 use Rattle.judgments.proofs.KeptNames.{among_place, different_append, kept_among, among_kept, kept_each, kept_differ, kept_order, read_any, any_read, any_at}
 use Rattle.judgments.proofs.OneOrder.{same_names, same_decls, one_place}
 use Rattle.judgments.proofs.Reordered.{IsSameOver, reorder, reorder_all, all_there, all_back, all_equal, same_gathered}
 use Rattle.judgments.proofs.RuleLemmas.{closed_names, bare_names, numbered, one_reading, no_context_read, over_closed}
 use Rattle.judgments.proofs.StatementLemmas.{numbered_all, place_front, place_back, among_at, different_front}
 use Rattle.judgments.proofs.WordsOfForms.{joined}
-use Rattle.judgments.proofs.Zips.{zip_append, zip_last, zip_unique}
 use Rattle.user_grammar.specs.Names.{IsCategoryWord}
+use Rattle.binding_terms.proofs.Lists.{all_append, any_back, any_front, any_split, zip_append, zip_last, zip_unique}
 
 pub among_split : (xs ys : List MetaDecl) (w : List ℕ) → IsAmong w (xs ++ ys) → IsAmong w xs ⊎ IsAmong w ys
 among_split xs ys w a = any_split (λ (d : MetaDecl). d.name ≡ w) xs ys a

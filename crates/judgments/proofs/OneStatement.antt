@@ -27,7 +27,7 @@ use Rattle.judgments.proofs.OneRule.{among_split, all_front, in_front}
 use Rattle.judgments.proofs.RuleLemmas.{closed_names, bare_names, numbered, no_context_read}
 use Rattle.judgments.proofs.StatementLemmas.{AreGiven, no_terms, any_given, given_any, read_inputs, place_front, place_back, among_at, different_front}
 use Rattle.judgments.proofs.WordsOfForms.{joined}
-use Rattle.judgments.proofs.Zips.{zip_append, zip_both, zip_right}
+use Rattle.binding_terms.proofs.Lists.{zip_append, zip_both, zip_right}
 
 pub given_inputs : (sig : Signature) (js : List Judgment) (names : Names) (inputs : List WrittenInput) (xs : List StatementInput)
     → AllZip (IsInputOf sig js names) inputs xs → AllByRecursion IsGivenInput xs → AreGiven inputs

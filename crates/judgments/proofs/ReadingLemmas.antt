@@ -13,12 +13,7 @@ use Rattle.scheme_terms.specs.SchemeScope.{IsScheme, AreSchemeParts, AreSchemes,
 use Rattle.scheme_terms.specs.declared.scheme.MetaDecl.{MetaDecl}
 use Rattle.rule_schemes.specs.Reading.{Token, word, punctuation, Variable, Means, IsSpelling, IsTerminal, MayBeTerminal, slot_variables, ReadsTerm, group, metavariable, variable, production, ReadsBrackets, no_brackets, brackets, ReadsArguments, one_more, last_one, ReadsItems, all_read, terminal, binder, slot, ReadsForm, form_end, form_terminal, form_context, form_slot}
 use Rattle.user_grammar.specs.Bare.{IsBareSignature}
-use Rattle.judgments.proofs.Collecting.{all_append}
-
-pub all_at : {A : Type 0} (P : A → Type 0) (xs : List A) (n : ℕ) (x : A) → AllByRecursion P xs → slice_get xs n ≡ Some x → P x
-all_at P [] n x h e = absurd (let never : None ≡ Some x = e in cc)
-all_at P (y ∷ xs) zero x h e = (let same : y ≡ x = cc in subst P same h.0)
-all_at P (y ∷ xs) (suc n) x h e = all_at P xs n x h.1 e
+use Rattle.binding_terms.proofs.Lists.{all_append, all_at}
 
 -- no word is a variable's
 pub not_variable : (cats : List Cat) (c : ℕ) (w : List ℕ) → AllByRecursion (λ (k : Cat). k.var ≡ None) cats

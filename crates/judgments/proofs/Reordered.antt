@@ -25,8 +25,8 @@ use Rattle.judgments.specs.Written.{settled, ReadsOnlyAs}
 use Rattle.judgments.proofs.KeptNames.{among_place, read_in, in_read}
 use Rattle.judgments.proofs.Occurring.{judgment_stands}
 use Rattle.judgments.proofs.OneOrder.{one_place, same_decl}
-use Rattle.judgments.proofs.ReadingLemmas.{all_at}
 use Rattle.judgments.proofs.RuleLemmas.{closed_names, no_context_read}
+use Rattle.binding_terms.proofs.Lists.{all_at}
 
 -- what stands in a scheme stands in it under its new number
 mutual

@@ -18,11 +18,11 @@ use Rattle.judgments.specs.Standing.{AreReadOf, AreUnreadOf}
 use Rattle.judgments.specs.Texts.{RuleText, rule_forms}
 use Rattle.judgments.specs.Theory.{IsBlockRule}
 use Rattle.judgments.specs.Written.{settled, ReadsOnlyAs}
-use Rattle.judgments.proofs.Collecting.{all_map}
 use Rattle.judgments.proofs.KeptNames.{names_each}
 use Rattle.judgments.proofs.OneRule.{rule_says, forms_moved, as_gathered, sorted_gathered, rule_found}
 use Rattle.judgments.proofs.RuleLemmas.{closed_names, bare_names, one_reading}
 use Rattle.judgments.proofs.WordsOfForms.{joined}
+use Rattle.binding_terms.proofs.Lists.{all_map}
 
 names_apart : (metas : List MetaDecl) → AreDifferentNames (map (λ (m : MetaDecl). m.name) metas) → NamesApart metas
 names_apart [] h = tt

@@ -17,8 +17,7 @@ use Rattle.judgments.specs.Collected.{IsCollected}
 use Rattle.judgments.specs.Spellings.{AreSpelledApart}
 use Rattle.judgments.specs.Written.{ReadsOnlyAs}
 use Rattle.judgments.proofs.BareForms.{reads_as}
-use Rattle.judgments.proofs.Collecting.{all_map}
-use Rattle.judgments.proofs.ReadingLemmas.{all_at}
+use Rattle.binding_terms.proofs.Lists.{all_at, all_map}
 
 -- a closed scope of metavariables
 abbrev pub closed_names : List MetaDecl → Names

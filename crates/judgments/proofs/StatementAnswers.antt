@@ -22,19 +22,17 @@ use Rattle.judgments.specs.Standing.{IsRead, AreReadOf, AreUnreadOf}
 use Rattle.judgments.specs.Statements.{IsNamedFreely, AreNamedDifferently}
 use Rattle.judgments.specs.Views.{given_text}
 use Rattle.judgments.specs.Written.{input_tokens, settled, ReadsOnlyAs}
-use Rattle.judgments.proofs.Collecting.{all_append, all_map, any_front, any_back}
 use Rattle.judgments.proofs.KeptNames.{different_append, kept_among, among_kept, kept_each, kept_differ, kept_order, read_any}
 use Rattle.judgments.proofs.Occurring.{numbers_stand}
 use Rattle.judgments.proofs.OneRule.{among_split, among_front, among_back}
 use Rattle.judgments.proofs.OneStatement.{AreSorted, is_built}
-use Rattle.judgments.proofs.ReadingLemmas.{all_at}
 use Rattle.judgments.proofs.Reordered.{IsSameOver, all_there, all_back}
 use Rattle.judgments.proofs.RuleAnswers.{plain_settled}
 use Rattle.judgments.proofs.RuleLemmas.{closed_names, bare_names, one_reading}
 use Rattle.judgments.proofs.StatementLemmas.{AreGiven, joined_append}
 use Rattle.judgments.proofs.StatementSays.{says, parts_moved}
 use Rattle.judgments.proofs.WordsOfForms.{joined, word_joined}
-use Rattle.judgments.proofs.Zips.{zip_unique}
+use Rattle.binding_terms.proofs.Lists.{all_append, all_at, all_map, any_back, any_front, zip_unique}
 
 abbrev pub form_of : NamedForm → List Token
 form_of named = map kind_and_text named.form.now

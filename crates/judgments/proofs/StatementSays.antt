@@ -24,7 +24,7 @@ use Rattle.judgments.proofs.Reordered.{IsSameOver, reorder_all, all_there, all_b
 use Rattle.judgments.proofs.RuleLemmas.{closed_names, bare_names, one_reading}
 use Rattle.judgments.proofs.StatementLemmas.{AreGiven, no_terms, any_given, given_any, inputs_read, numbered_all, place_front, place_back, different_front, different_back}
 use Rattle.judgments.proofs.WordsOfForms.{joined}
-use Rattle.judgments.proofs.Zips.{zip_unique}
+use Rattle.binding_terms.proofs.Lists.{zip_unique}
 
 -- what a statement says
 pub record SaysOf (th : Theory) (text : TheoremText) (st : Theorem) : Type 0 where

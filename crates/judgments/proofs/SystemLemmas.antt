@@ -23,8 +23,8 @@ use Rattle.judgments.specs.Texts.{JudgmentText, RuleText, as_read, judgments_in,
 use Rattle.judgments.specs.Theory.{IsItemOf, IsJudgmentOf, IsBlockRule, IsTheoryOf, AreNamedApart, a_judgment, a_rule}
 use Rattle.judgments.proofs.OneRule.{one_rule}
 use Rattle.judgments.proofs.Spelling.{none_spelled}
-use Rattle.judgments.proofs.Zips.{zip_append, zip_split, zip_unique, zip_right, zip_both, zip_map, map_append}
 use Rattle.user_grammar.specs.Names.{IsCategoryWord}
+use Rattle.binding_terms.proofs.Lists.{map_append, zip_append, zip_both, zip_map, zip_right, zip_split, zip_unique}
 
 -- forms are read as their tokens are lent
 pub form_read : (ts : List of_token.Token) → map taken (map token_view ts) ≡ map kind_and_text ts

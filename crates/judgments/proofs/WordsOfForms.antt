@@ -9,8 +9,8 @@ use Rattle.rule_schemes.specs.Reading.{Token, word, punctuation}
 use Rattle.rule_schemes.specs.NewNames.{TellsBrackets, at_end, no_bracket, open_bracket, TellsWords, comma, close_bracket, IsTelling, TellsNothing, FirstTells, HasParameters}
 use Rattle.judgments.specs.Collected.{StandsIn}
 use Rattle.judgments.specs.Named.{IsWordOf}
-use Rattle.judgments.proofs.Collecting.{any_front, any_back, any_split}
 use Rattle.judgments.proofs.ReadingLemmas.{not_variable}
+use Rattle.binding_terms.proofs.Lists.{any_back, any_front, any_split}
 
 -- two words are the same or not
 pub same_word : (v w : List ℕ) → (v ≡ w) ⊎ (v ≢ w)

@@ -65,8 +65,3 @@ one_unmarked (false ∷ (c ∷ bs)) (y ∷ (z ∷ xs)) zero d l k e = refl
 one_unmarked (true ∷ bs) (y ∷ xs) zero d l k e = absurd (let never : true ≡ false = e in cc)
 one_unmarked (true ∷ bs) (y ∷ xs) (suc i) d l k e = ap (λ ys. y ∷ ys) (one_unmarked bs xs i d (omega (arith, l)) (omega (arith, k)) e)
 one_unmarked (false ∷ bs) (y ∷ xs) (suc i) d l k e = one_unmarked bs xs i d (omega (arith, l)) (omega (arith, k)) e
-
--- one number more
-pub numbered_push : {A : Type 0} (P : ℕ → A → Type 0) (n : ℕ) (xs : List A) (x : A) → AllNumbered P n xs → P (n + length xs) x → AllNumbered P n (xs ++ x ∷ [])
-numbered_push P n [] x h k = (subst (λ m. P m x) (omega arith) k, tt)
-numbered_push P n (y ∷ xs) x h k = (h.0, numbered_push P (suc n) xs x h.1 (subst (λ m. P m x) (omega arith) k))

@@ -15,7 +15,6 @@ use Rattle.term_reader.specs.Firsts.{AreFirst, IsLeast, paired}
 use Rattle.term_reader.specs.Names.{NamesApart}
 use Rattle.term_reader.specs.Splitting.{SlotRange, lengths, ReadsPieces, IsMapped}
 use Rattle.term_reader.proofs.Finding.{AreFirst-same, AreFirst-map, IsPair, AreFirst-paired}
-use Rattle.term_reader.proofs.SplitLemmas.{all_of}
 use Rattle.notation_parser.specs.Forms.{beside, judged, AroundContext, judged_around, then_ways, IsContextPlace, IsAroundInShape, IsReadInShape, IsReadInShapes, IsReadAround, IsReadInSlots, HasFront, IsPlacedAs}
 use Rattle.notation_parser.specs.Fronts.{AreFirstAt, AreTold}
 use Rattle.notation_parser.specs.Ordered.{WrittenForm}
@@ -25,6 +24,7 @@ use Rattle.notation_parser.proofs.FrontLemmas.{AreRanked, IsItsFront, first_plac
 use Rattle.notation_parser.proofs.PlaceOrder.{before_trans, front_before, rest_before}
 use Rattle.notation_parser.proofs.SeveralRanked.{AllRanked}
 use Rattle.notation_parser.proofs.Shaped.{shapes_apart}
+use Rattle.binding_terms.proofs.Lists.{all_contained, same_fronts}
 
 -- parts of these schemes, each of which binds what its slot tells
 abbrev in_slots : List SlotRange → List SchemeTree → Parts
@@ -47,18 +47,6 @@ terms_counted sig metas ts vars own [] ws xs r = ap (λ ys. length (bare ys)) r.
 terms_counted sig metas ts vars own (p ∷ ps) no_ways xs r = absurd r
 terms_counted sig metas ts vars own (p ∷ ps) (then_way w ws) no_parts r = absurd r
 terms_counted sig metas ts vars own (p ∷ ps) (then_way w ws) (part n s xs) r = ap suc (terms_counted sig metas ts vars own ps ws xs r.2)
-
--- lists of one length in front of others
-same_fronts : {X : Type 0} (xs ys us vs : List X) → xs ++ us ≡ ys ++ vs → length xs ≡ length ys → (xs ≡ ys) × (us ≡ vs)
-same_fronts [] [] us vs e h = (refl, e)
-same_fronts [] (y ∷ ys) us vs e h = absurd (cc)
-same_fronts (x ∷ xs) [] us vs e h = absurd (cc)
-same_fronts {X} (x ∷ xs) (y ∷ ys) us vs e h =
-    let first : x ≡ y = cc in
-    let rest : xs ++ us ≡ ys ++ vs = cc in
-    let count : length xs ≡ length ys = cc in
-    let q = same_fronts xs ys us vs rest count in
-    (ap (λ z. z ∷ xs) first ∙ ap (λ zs. y ∷ zs) q.0, q.1)
 
 -- what is judged over contexts is the same only where the contexts and the arguments are
 judged_apart : (k : ℕ) (x y : WrittenContext) (ss us : List SchemeTree) → judged k x ss ≡ judged k y us → (x ≡ y) × (ss ≡ us)
@@ -227,7 +215,7 @@ module _ (sig : Signature) (scope : ReadingScope) (metas : List MetaDecl) (ts : 
           let s = h.1.0 in
           let a = h.1.2.0 in
           let r = h.1.2.2 in
-          let context = all_of (λ s. (w : Way) (x : WrittenContext) → ReadsInShape sig scope metas ts c s w x
+          let context = all_contained (λ s. (w : Way) (x : WrittenContext) → ReadsInShape sig scope metas ts c s w x
           → ReadsContextAt sig scope metas c.0 (slice_range ts p.from p.to) w x.0 (shape_variables sig scope c.0 s) x.1) all s shapes.sound h.1.1 r.0 a.1.0 r.7 in
           (n, p, here, is, (a, us, r.0, r.1, r.2, r.3, shape_variables sig scope c.0 s, h.1.2.1, r.4, r.5, r.6, context, r.8, r.9))
 

@@ -12,32 +12,7 @@ use Rattle.rule_schemes.specs.NewNames.{AreInOrder, StandsBefore, IsNewMeta, IsP
 use Rattle.term_reader.specs.Names.{NamesApart}
 use Rattle.notation_parser.specs.Candidates.{IsOfFirst, AreCandidates, StandsIn, AreCandidatesUpTo, IsNextCandidate}
 use Rattle.notation_parser.proofs.Tellings.{first_tells_once, first_tells_stands}
-
-any_front : {A : Type 0} (P : A → Type 0) (xs ys : List A) → AnyByRecursion P xs → AnyByRecursion P (xs ++ ys)
-any_front P [] ys h = absurd h
-any_front P (x ∷ xs) ys (inl h) = inl h
-any_front P (x ∷ xs) ys (inr h) = inr (any_front P xs ys h)
-
-any_back : {A : Type 0} (P : A → Type 0) (xs ys : List A) → AnyByRecursion P ys → AnyByRecursion P (xs ++ ys)
-any_back P [] ys h = h
-any_back P (x ∷ xs) ys h = inr (any_back P xs ys h)
-
-any_split : {A : Type 0} (P : A → Type 0) (xs ys : List A) → AnyByRecursion P (xs ++ ys) → AnyByRecursion P xs ⊎ AnyByRecursion P ys
-any_split P [] ys h = inr h
-any_split P (x ∷ xs) ys (inl h) = inl (inl h)
-any_split P (x ∷ xs) ys (inr h) = which (any_split P xs ys h)
-  where
-    which : AnyByRecursion P xs ⊎ AnyByRecursion P ys → AnyByRecursion P (x ∷ xs) ⊎ AnyByRecursion P ys
-    which (inl k) = inl (inr k)
-    which (inr k) = inr k
-
-all_append : {A : Type 0} (P : A → Type 0) (xs ys : List A) → AllByRecursion P xs → AllByRecursion P ys → AllByRecursion P (xs ++ ys)
-all_append P [] ys h k = k
-all_append P (x ∷ xs) ys h k = (h.0, all_append P xs ys h.1 k)
-
-all_map : {A : Type 0} (P Q : A → Type 0) → ((a : A) → P a → Q a) → (xs : List A) → AllByRecursion P xs → AllByRecursion Q xs
-all_map P Q f [] h = tt
-all_map P Q f (x ∷ xs) h = (f x h.0, all_map P Q f xs h.1)
+use Rattle.binding_terms.proofs.Lists.{all_append, all_map, any_back, any_front, any_split}
 
 -- none of them is so
 pub none_named : (w : List ℕ) (metas : List MetaDecl) → (AnyByRecursion (λ (c : MetaDecl). c.name ≡ w) metas → ⊥) → AllByRecursion (λ (c : MetaDecl). c.name ≢ w) metas

@@ -1,7 +1,6 @@
 -- The shapes of contexts with an entry more are those of the shorter contexts with the splits of the entry's items.
 use Rattle.std.proofs.Common.{◌≡◌, ℕ, ◌+◌, ◌-◌, ◌<◌, ◌≤◌, List, [], ◌∷◌, ◌++◌, length, refl, ap, ◌∙◌, sym, subst, arith, slice_get, slice_range, Bool, true, false, ◌==◌, if◌then◌else◌}
 use Rattle.std.proofs.lemmas.List.{length-map}
-use Rattle.binding_terms.proofs.Occurring.{match_to}
 use Rattle.std.specs.List.{Contains, AllByRecursion}
 use Rattle.binding_terms.specs.Signature.{Signature, binders}
 use Rattle.binding_terms.specs.declared.grammar.CatId.{CatId}
@@ -19,15 +18,11 @@ use Rattle.term_reader.specs.Splitting.{SlotRange, Divided, bound_variable, IsSp
 use Rattle.term_reader.specs.View.{token}
 use Rattle.term_reader.specs.declared.sheet.Sheet.{Sheet}
 use Rattle.term_reader.proofs.Pieces.{words_of, split_from, read_split, known_own}
-use Rattle.term_reader.proofs.SplitLemmas.{all_both, all_weaker}
 use Rattle.term_reader.proofs.Usable.{usable_splits}
 use Rattle.notation_parser.specs.Shapes.{ReadsContextAt, ContextShape, named, empty, new_entry, scope_entry, entered, WrittenContext, shape_variables, ReadsInShape, IsUsable, IsScopeKnown}
 use Rattle.notation_parser.specs.ContextCases.{IsEnteredAt, AreListed, first_variable, entry_of_split, crossed}
 use Rattle.notation_parser.proofs.ShapeLists.{Sound, no_shapes, all_crossed, contains_crossed, order_crossed}
-
-pub all_joined : {X : Type 0} (P Q R : X → Type 0) (xs : List X) → ((x : X) → P x → Q x → R x) → AllByRecursion P xs → AllByRecursion Q xs → AllByRecursion R xs
-all_joined P Q R [] h p q = tt
-all_joined P Q R (x ∷ xs) h p q = (h x p.0 q.0, all_joined P Q R xs h p.1 q.1)
+use Rattle.binding_terms.proofs.Lists.{all_also, all_append, all_joined, match_to}
 
 -- a split of items without binders has no variable, and one of items with one binder has one
 no_variable : (sig : Signature) (us : List Token) (to : ℕ) (items : List Item) (n : ℕ) (vs : List Variable) (ps : List SlotRange) → IsSplit sig us to items n vs ps
@@ -62,7 +57,7 @@ known_root sheet (Empty r) c vars knowns v k = k
 known_root sheet (Whole r) c vars knowns v k = go (r.0 == c)
   where
     go : (b : Bool) → AreKnown sheet (if b then (vars ++ knowns) else knowns)
-    go true = all_both (λ (v : Variable). MayBeVariable sheet.sig.now sheet.words.now v.cat v.word) vars knowns v k
+    go true = all_append (λ (v : Variable). MayBeVariable sheet.sig.now sheet.words.now v.cat v.word) vars knowns v k
     go false = k
 
 pub known_shape : (sheet : Sheet) (scope : ReadingScope) (c : ℕ) (s : ContextShape) → IsScopeKnown sheet scope → IsUsable sheet s
@@ -167,7 +162,7 @@ module _ (sheet : Sheet) (scope : ReadingScope) (c : CatId) (from place to p : �
   -- each split has a variable
   pub some_own : (ds : List Divided) → AreSplits (Stands sheet) (IsSplit sig ts to items place) ds → AllByRecursion (λ (d : Divided). 0 < length d.0) ds
   some_own ds splits =
-      all_weaker (λ (d : Divided). IsSplit sig ts to items place d.0 d.1) (λ (d : Divided). 0 < length d.0) ds
+      all_also (λ (d : Divided). IsSplit sig ts to items place d.0 d.1) (λ (d : Divided). 0 < length d.0) ds
       (λ d is. (let v = one_variable sig ts to items place d.0 d.1 is one in omega (arith, ap length v.2))) splits.each
 
   pub no_entry : IsScopeKnown sheet scope → AreSplits (Stands sheet) (IsSplit sig ts to items place) [] → AreListed sheet scope c Longer []

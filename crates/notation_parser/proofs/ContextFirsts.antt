@@ -14,32 +14,13 @@ use Rattle.term_reader.specs.Splitting.{SlotRange, lengths, ReadsPieces, IsMappe
 use Rattle.term_reader.proofs.Finding.{AreFirst-same, AreFirst-map, IsPair, AreFirst-paired}
 use Rattle.term_reader.specs.FirstPlace.{IsFirstPlace, ReadPiecesAs}
 use Rattle.notation_parser.specs.Shapes.{ContextShape, EntryShape, named, empty, new_entry, scope_entry, entered, shape_variables, WrittenContext, with_entry, new_context, whole_with, ReadsInShape}
-
--- lists with one more at the end are the same only with the same end
-last_apart : {X : Type 0} (xs ys : List X) (x y : X) → xs ++ x ∷ [] ≡ ys ++ y ∷ [] → (xs ≡ ys) × (x ≡ y)
-last_apart [] [] x y e = (refl, cc)
-last_apart [] (z ∷ ys) x y e = absurd (let l = ap length e in omega (arith, l, length_last ys y))
-  where
-    length_last : {X : Type 0} (us : List X) (u : X) → length (us ++ u ∷ []) ≡ suc (length us)
-    length_last [] u = refl
-    length_last (v ∷ us) u = ap suc (length_last us u)
-last_apart (z ∷ xs) [] x y e = absurd (let l = ap length e in omega (arith, l, length_last xs x))
-  where
-    length_last : {X : Type 0} (us : List X) (u : X) → length (us ++ u ∷ []) ≡ suc (length us)
-    length_last [] u = refl
-    length_last (v ∷ us) u = ap suc (length_last us u)
-last_apart (z ∷ xs) (u ∷ ys) x y e =
-    let whole : z ∷ (xs ++ x ∷ []) ≡ u ∷ (ys ++ y ∷ []) = e in
-    let first : z ≡ u = cc in
-    let rest : xs ++ x ∷ [] ≡ ys ++ y ∷ [] = cc in
-    let more = last_apart xs ys x y rest in
-    (ap (λ a. a ∷ xs) first ∙ ap (λ zs. u ∷ zs) more.0, more.1)
+use Rattle.binding_terms.proofs.Lists.{same_last}
 
 entry_apart : (p : ℕ) (a b : WrittenContext) (xs ys : List SchemeTree) → with_entry p a xs ≡ with_entry p b ys → (a ≡ b) × (xs ≡ ys)
 entry_apart p a b xs ys e =
     let root : a.0.root ≡ b.0.root = ap (λ (z : WrittenContext). z.0.root) e in
     let knowns : a.1 ≡ b.1 = ap (λ (z : WrittenContext). z.1) e in
-    let entries = last_apart a.0.entries b.0.entries (record { prod = p; args = xs }) (record { prod = p; args = ys }) (ap (λ (z : WrittenContext). z.0.entries) e) in
+    let entries = same_last a.0.entries b.0.entries (record { prod = p; args = xs }) (record { prod = p; args = ys }) (ap (λ (z : WrittenContext). z.0.entries) e) in
     (λ i. (record { root = root i; entries = entries.0 i }, knowns i), ap (λ (z : SchemeEntry). z.args) entries.1)
 
 module _ (sig : Signature) (metas : List MetaDecl) (ts : List Token) (vars own : List Variable) where

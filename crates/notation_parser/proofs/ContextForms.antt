@@ -8,12 +8,12 @@ use Rattle.rule_schemes.specs.Said.{a_context, Way, IsBefore}
 use Rattle.term_reader.specs.Firsts.{AreFirst}
 use Rattle.term_reader.specs.Splitting.{IsMapped}
 use Rattle.term_reader.proofs.Finding.{AreFirst-map}
-use Rattle.term_reader.proofs.SplitLemmas.{all_of}
 use Rattle.notation_parser.specs.Forms.{as_context, IsContextRead}
 use Rattle.notation_parser.specs.Ordered.{WrittenForm}
 use Rattle.notation_parser.specs.Shapes.{ContextShape, WrittenContext, ReadsContextAt, ReadsInShape, AreShapes, AreShapesInOrder, shape_variables}
 use Rattle.notation_parser.proofs.Several.{InOneOf, AreApart}
 use Rattle.notation_parser.proofs.Shaped.{shapes_apart}
+use Rattle.binding_terms.proofs.Lists.{all_contained}
 
 -- a context in that shape, as what it writes
 abbrev pub AsContext : Signature → ReadingScope → List MetaDecl → List Token → CatId → ContextShape → Way → WrittenForm → Type 0
@@ -48,7 +48,7 @@ module _ (sig : Signature) (scope : ReadingScope) (metas : List MetaDecl) (ts : 
       there h =
           let s = h.0 in
           let r = h.2 in
-          let context = all_of (λ s. (w : Way) (x : WrittenContext) → ReadsInShape sig scope metas ts c s w x
+          let context = all_contained (λ s. (w : Way) (x : WrittenContext) → ReadsInShape sig scope metas ts c s w x
           → ReadsContextAt sig scope metas c.0 (slice_range ts from to) w x.0 (shape_variables sig scope c.0 s) x.1) all s shapes.sound h.1 r.0 r.1 r.4 in (
             r.1,
             shape_variables sig scope c.0 s,

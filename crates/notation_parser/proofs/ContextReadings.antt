@@ -19,13 +19,7 @@ use Rattle.term_reader.proofs.Ranges.{range_length, range_cons, range_begins, ra
 use Rattle.notation_parser.specs.Shapes.{ReadsContextAt}
 use Rattle.notation_parser.specs.ContextCases.{IsNamed, IsEmptyOf, BeginsWith, IsEntryOver, IsEnteredAt, IsEnteredBelow, IsContextBy, IsContextBelow, IsNewEntryOf, IsScopeEntryOf, IsKnownEntryOf, IsKnownBy, IsKnownBelow, BeginsNewly}
 use Rattle.notation_parser.proofs.ShapeLists.{before_at}
-
-some_of : {A : Type 0} (o : Option A) (P : A → Type 0) → MatchOption o ⊥ P → (x : A) × (o ≡ Some x) × P x
-some_of None P h = absurd h
-some_of (Some x) P h = (x, refl, h)
-
-matched : {A : Type 0} (P : A → Type 0) (o : Option A) (x : A) → o ≡ Some x → P x → MatchOption o ⊥ P
-matched P o x e h = subst (λ q. MatchOption q ⊥ P) (sym e) h
+use Rattle.binding_terms.proofs.Lists.{match_some, matched}
 
 -- numbers tell categories apart
 same_cat : (c d : CatId) → c.0 ≡ d.0 → c ≡ d
@@ -146,7 +140,7 @@ module _ (sig : Signature) (scope : ReadingScope) (metas : List MetaDecl) (c : C
 
   entry_of_form : (p b : ℕ) (items : List Item) → IsEntryForm sig c.0 p b items → EntryProd p b items
   entry_of_form p b items form =
-      let q = some_of (slice_get sig.prods p) _ form in
+      let q = match_some (slice_get sig.prods p) _ form in
       let items_are : drop 1 q.0.items ≡ items = ap (drop 1) (q.2.1).2 in
       let over : IsEntryOver c.0 q.0.items = (subst (BeginsWith c.0) (sym (q.2.1).2) (q.2.1).3, ap (λ xs. length (binders xs)) items_are ∙ ap length q.2.2) in
       (q.0, q.1, q.2.0, over, items_are, q.2.2)
@@ -168,7 +162,7 @@ module _ (sig : Signature) (scope : ReadingScope) (metas : List MetaDecl) (c : C
         ),
       ))
   cases_of (entry p {b = b} {items = items} {first = first} {rest = rest} {w = name} {xs = xs} {ctx = ctx} {vars = vars} {written = written} form split r ri) f =
-      let q = some_of (slice_get sig.prods p) _ form in
+      let q = match_some (slice_get sig.prods p) _ form in
       let d = range_front ts from to first rest start within (f ∙ split) in
       let items_are : drop 1 q.0.items ≡ items = ap (drop 1) (q.2.1).2 in
       let one : 0 < length (name ∷ []) = omega arith in

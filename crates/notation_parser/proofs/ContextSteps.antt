@@ -9,13 +9,13 @@ use Rattle.rule_schemes.specs.Reading.{Variable, ReadingScope}
 use Rattle.rule_schemes.specs.Said.{Way, IsBefore}
 use Rattle.term_reader.specs.Splitting.{tokens_of}
 use Rattle.term_reader.specs.declared.sheet.Sheet.{Sheet}
-use Rattle.term_reader.proofs.SplitLemmas.{all_both}
 use Rattle.notation_parser.specs.Shapes.{ContextShape, context_shape, IsUsable, ReadsContextAt}
 use Rattle.notation_parser.specs.ContextCases.{IsNamed, IsEnteredAt, IsEnteredBelow, IsContextBy, IsContextBelow, IsKnownBy, IsKnownBelow, BeginsNewly, AreListed}
 use Rattle.notation_parser.specs.declared.shaping.Shape.{Shape}
 use Rattle.notation_parser.proofs.ContextBeginnings.{nothing_listed, same_listed}
 use Rattle.notation_parser.proofs.ContextReadings.{all_contexts, contexts_apart, one_context_more, entries_apart, one_entry_more, known_last_of_all, known_apart, one_known_more}
 use Rattle.notation_parser.proofs.ShapeLists.{joined_shapes}
+use Rattle.binding_terms.proofs.Lists.{all_append}
 
 module _ (sheet : Sheet) (scope : ReadingScope) (c : CatId) where
   listed_append : (P Q : Way → SchemeContext → List Variable → List KnownVariable → Type 0) (xs ys : List Shape)
@@ -25,7 +25,7 @@ module _ (sheet : Sheet) (scope : ReadingScope) (c : CatId) where
   listed_append P Q xs ys apart f g =
       subst (AreListed sheet scope c (λ w ctx vars ks. P w ctx vars ks ⊎ Q w ctx vars ks)) (sym (map-append context_shape xs ys)) (
         joined_shapes sheet.sig.now scope sheet.metas.now (tokens_of sheet) c P Q (map context_shape xs) (map context_shape ys) apart f.0 g.0,
-        all_both (IsUsable sheet) (map context_shape xs) (map context_shape ys) f.1 g.1,
+        all_append (IsUsable sheet) (map context_shape xs) (map context_shape ys) f.1 g.1,
       )
 
   module _ (from to : ℕ) (start : from ≤ to) (within : to ≤ length (tokens_of sheet)) where

@@ -6,15 +6,6 @@ use Rattle.std.specs.List.{AllByRecursion}
 use Rattle.scheme_terms.specs.declared.scheme.MetaDecl.{MetaDecl}
 use Rattle.term_reader.specs.Names.{NamesApart}
 
-pub empty_map : {X Y : Type 0} (r : Bool) (f : X → Y) (xs : List X) → (IsTrue r ↔ (length xs ≡ 0)) → IsTrue r ↔ (map f xs ≡ [])
-empty_map r f xs h = (λ t. ap (map f) (nil_from_length xs (h.0 t)), λ e. h.1 (sym (length-map xs f) ∙ ap length e))
-
-pub empty_reverse : {X Y : Type 0} (r : Bool) (f : X → Y) (xs : List X) → (IsTrue r ↔ (length xs ≡ 0)) → IsTrue r ↔ (reverse (map f xs) ≡ [])
-empty_reverse r f xs h = (
-  λ t. ap (λ ys. reverse (map f ys)) (nil_from_length xs (h.0 t)),
-  λ e. h.1 (sym (length-map xs f) ∙ sym (length-reverse (map f xs)) ∙ ap length e),
-)
-
 -- one metavariable less to compare
 pub names_step : (metas : List MetaDecl) (i : ℕ) (m : MetaDecl) (r : Bool) → i < length metas → m ≡ get_or metas i m
     → (IsTrue r ↔ AllByRecursion (λ (n : MetaDecl). m.name ≢ n.name) (take (length metas - (i + 1)) (drop (i + 1) metas))) → r ≡ true

@@ -8,6 +8,7 @@ use Rattle.rule_schemes.specs.NewNames.{StandsBefore, AreInOrder}
 use Rattle.term_reader.specs.Names.{NamesApart}
 use Rattle.notation_parser.specs.Used.{marked}
 use Rattle.notation_parser.proofs.Marks.{all_marked}
+use Rattle.binding_terms.proofs.Lists.{all_equal}
 
 before_trans : (a b d : List ℕ) (ts : List Token) → StandsBefore a b ts → StandsBefore b d ts → StandsBefore a d ts
 before_trans a b d [] h k = h
@@ -75,11 +76,6 @@ sorted_apart ts (m ∷ metas) h = (others metas h.0, sorted_apart ts metas h.1)
 abbrev pub IsAmong : MetaDecl → List MetaDecl → Type 0
 IsAmong d metas = AnyByRecursion (λ c. c ≡ d) metas
 
-all_of : {A : Type 0} (P : A → Type 0) (xs : List A) (x : A) → AllByRecursion P xs → AnyByRecursion (λ y. y ≡ x) xs → P x
-all_of P [] x all h = absurd h
-all_of P (y ∷ xs) x all (inl e) = subst P e all.0
-all_of P (y ∷ xs) x all (inr h) = all_of P xs x all.1 h
-
 no_marks : (metas : List MetaDecl) → (bs : List Bool) × (length bs ≡ length metas) × (marked bs metas ≡ [])
 no_marks [] = ([], refl, refl)
 no_marks (m ∷ metas) = let k = no_marks metas in (false ∷ k.0, ap suc k.1, k.2)
@@ -100,7 +96,7 @@ module _ (ts : List Token) where
   later_among c cs d (e ∷ ds) order here after among = (go among.0, later_among c cs d ds order here after.1 among.1)
     where
       go : IsAmong e (c ∷ cs) → IsAmong e cs
-      go (inl same) = absurd (precedes_once ts c d (all_of (Precedes ts c) cs d order here) (subst (Precedes ts d) (sym same) after.0))
+      go (inl same) = absurd (precedes_once ts c d (all_equal (Precedes ts c) cs d order here) (subst (Precedes ts d) (sym same) after.0))
       go (inr h) = h
 
   pub marks_of : (cs ds : List MetaDecl) → AreSorted ts cs → AreSorted ts ds → AllByRecursion (λ d. IsAmong d cs) ds → (bs : List Bool) × (length bs ≡ length cs) × (marked bs cs ≡ ds)

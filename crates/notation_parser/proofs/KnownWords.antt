@@ -15,8 +15,8 @@ use Rattle.term_reader.specs.Chart.{IsAmong, MayBeVariable, AreAllowed}
 use Rattle.term_reader.specs.View.{meaning, variable, in_scope, scope_words}
 use Rattle.term_reader.specs.declared.variables.Var.{Var}
 use Rattle.term_reader.proofs.ChartLemmas.{scope_allowed}
-use Rattle.term_reader.proofs.SplitLemmas.{all_weaker}
 use Rattle.notation_parser.specs.Knowns.{known_texts}
+use Rattle.binding_terms.proofs.Lists.{all_also}
 
 among_left : (xs ys : List (Text × CatId)) (c : ℕ) (w : List ℕ) → IsAmong xs c w → IsAmong (xs ++ ys) c w
 among_left [] ys c w h = absurd h
@@ -30,7 +30,7 @@ among_right (x ∷ xs) ys c w h = inr (among_right xs ys c w h)
 -- the words of a scope are allowed among more
 pub scope_words_allowed : (sig : Signature) (words more : List (Text × CatId)) → AreAllowed sig (words ++ more) (scope_words words)
 scope_words_allowed sig words more =
-    all_weaker (λ (v : Variable). MayBeVariable sig words v.cat v.word) (λ (v : Variable). MayBeVariable sig (words ++ more) v.cat v.word) (scope_words words)
+    all_also (λ (v : Variable). MayBeVariable sig words v.cat v.word) (λ (v : Variable). MayBeVariable sig (words ++ more) v.cat v.word) (scope_words words)
     (λ v h. wider v h) (scope_allowed sig words)
   where
     wider : (v : Variable) → MayBeVariable sig words v.cat v.word → MayBeVariable sig (words ++ more) v.cat v.word

@@ -2,8 +2,8 @@
 use Rattle.std.proofs.Common.{◌≡◌, ◌↔◌, ℕ, zero, suc, ◌+◌, ◌-◌, ◌<◌, Bool, true, false, IsTrue, if◌then◌else◌, List, [], ◌∷◌, ◌++◌, length, refl, ap, ◌∙◌, sym, subst, arith, Some, slice_get, lt-ltb, le-ltb}
 use Rattle.std.specs.List.{AllByRecursion}
 use Rattle.binding_terms.specs.Numbered.{AllNumbered}
-use Rattle.binding_terms.proofs.Frames.{append_within, append_beyond}
 use Rattle.notation_parser.specs.Used.{marked, marks_before, moved}
+use Rattle.binding_terms.proofs.Lists.{append_beyond, append_within}
 
 -- the place of the mark with that number
 abbrev pub place_of : List Bool → ℕ → ℕ
@@ -55,21 +55,6 @@ numbers_marked Q n (true ∷ bs) (x ∷ xs) h =
     (subst Q (omega arith) (h 0 refl), numbers_marked Q (suc n) bs xs (λ i e. subst Q (omega arith) (h (suc i) e)))
 numbers_marked Q n (false ∷ bs) (x ∷ xs) h = numbers_marked Q n bs xs (λ i e. h (suc i) e)
 
-pub numbered_at : {A : Type 0} (P : ℕ → A → Type 0) (n : ℕ) (xs : List A) (i : ℕ) (x : A) → AllNumbered P n xs → slice_get xs i ≡ Some x → P (n + i) x
-numbered_at P n [] i x h e = absurd (cc)
-numbered_at P n (y ∷ xs) zero x h e = let same : y ≡ x = cc in subst (P (n + 0)) same (subst (λ k. P k y) (omega arith) h.0)
-numbered_at P n (y ∷ xs) (suc i) x h e = subst (λ k. P k x) (omega arith) (numbered_at P (suc n) xs i x h.1 e)
-
-pub all_numbered : {A : Type 0} (P : ℕ → A → Type 0) (n : ℕ) (xs : List A) → ((i : ℕ) (x : A) → slice_get xs i ≡ Some x → P (n + i) x) → AllNumbered P n xs
-all_numbered P n [] h = tt
-all_numbered P n (x ∷ xs) h =
-    (subst (λ k. P k x) (omega arith) (h 0 x refl), all_numbered P (suc n) xs (λ i y e. subst (λ k. P k y) (omega arith) (h (suc i) y e)))
-
-pub within_marks : {A : Type 0} (xs : List A) (i : ℕ) → i < length xs → (x : A) × (slice_get xs i ≡ Some x)
-within_marks [] i h = absurd (omega (arith, h))
-within_marks (x ∷ xs) zero h = (x, refl)
-within_marks (x ∷ xs) (suc i) h = within_marks xs i (omega (arith, h))
-
 -- marks of one thing are the same
 pub same_mark : (P : Type 0) (a b : Bool) → (IsTrue a ↔ P) → (IsTrue b ↔ P) → a ≡ b
 same_mark P true true h k = refl
@@ -91,9 +76,3 @@ moved_low n f m h = ap (λ b. if b then m else (n + f (m - n))) (lt-ltb m n h)
 pub moved_high : (n : ℕ) (f : ℕ → ℕ) (i : ℕ) → moved n f (n + i) ≡ n + f i
 moved_high n f i =
     ap (λ b. if b then (n + i) else (n + f (n + i - n))) (le-ltb (n + i) n (omega arith)) ∙ ap (λ k. n + f k) (omega arith)
-
-pub front_at : {A : Type 0} (xs ys : List A) (m : ℕ) → m < length xs → slice_get (xs ++ ys) m ≡ slice_get xs m
-front_at xs ys m h = append_within xs ys m h
-
-pub back_at : {A : Type 0} (xs ys : List A) (j : ℕ) → slice_get (xs ++ ys) (length xs + j) ≡ slice_get ys j
-back_at xs ys j = append_beyond xs ys (length xs + j) (omega arith) ∙ ap (slice_get ys) (omega arith)

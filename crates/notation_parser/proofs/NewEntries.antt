@@ -16,15 +16,14 @@ use Rattle.rule_schemes.specs.Said.{ComesBefore}
 use Rattle.term_reader.specs.View.{token}
 use Rattle.term_reader.specs.declared.sheet.Sheet.{Sheet}
 use Rattle.term_reader.proofs.Pieces.{words_of, split_from, read_split}
-use Rattle.term_reader.proofs.SplitLemmas.{all_weaker, cons_cases}
-use Rattle.term_reader.proofs.TermCases.{all_at}
 use Rattle.term_reader.proofs.Usable.{usable_splits}
 use Rattle.notation_parser.specs.Shapes.{ContextShape, new_entry, EntryShape, WrittenContext, shape_variables, ReadsInShape, IsShapeBefore, AreShapesInOrder, IsUsable, IsScopeKnown, KnownsApart, context_shape}
 use Rattle.notation_parser.specs.ContextCases.{IsNewEntryOf, AreListed, first_variable, entry_of_split, new_entry_of, IsNewShape, AreNewShapes}
 use Rattle.notation_parser.specs.declared.shaping.Shape.{Shape}
 use Rattle.term_reader.specs.declared.splitting.Split.{Split}
-use Rattle.notation_parser.proofs.ContextEntries.{one_variable, all_joined}
+use Rattle.notation_parser.proofs.ContextEntries.{one_variable}
 use Rattle.notation_parser.proofs.ShapeLists.{Sound, before_at}
+use Rattle.binding_terms.proofs.Lists.{all_also, all_at, all_joined, cons_cases}
 
 -- a name has one number among known variables that are told apart
 pub known_case : (ks : List KnownVariable) (w : List ℕ) (n : ℕ) → IsKnownNumber ks w n
@@ -205,7 +204,7 @@ new_shape_is ks p n d e h number = (
 pub some_new : (sig : Signature) (us : List Token) (Stand : SlotRange → Type 0) (from to : ℕ) (items : List Item) → length (binders items) ≡ 1 → (ds : List Divided)
     → AreSplits Stand (IsSplit sig us to items from) ds → AllByRecursion (λ (d : Divided). 0 < length d.0) ds
 some_new sig us Stand from to items one ds splits =
-    all_weaker (λ (d : Divided). IsSplit sig us to items from d.0 d.1) (λ (d : Divided). 0 < length d.0) ds
+    all_also (λ (d : Divided). IsSplit sig us to items from d.0 d.1) (λ (d : Divided). 0 < length d.0) ds
     (λ d is. (let v = one_variable sig us to items from d.0 d.1 is one in omega (arith, ap length v.2))) splits.each
 
 pub new_of_more : (ks : List KnownVariable) (p : ℕ) (found : List Split) (j : ℕ) (here : Split) (all : List Shape) (x : Shape) → j < length found → here ≡ get_or found j here

@@ -15,7 +15,7 @@ use Rattle.term_reader.specs.Splitting.{SlotRange, Divided, lengths, IsSplit, Ar
 use Rattle.term_reader.specs.declared.sheet.Sheet.{Sheet}
 use Rattle.term_reader.proofs.Pieces.{split_from, read_split}
 use Rattle.term_reader.proofs.Ranges.{range_all, range_length, range_cons, range_begins, range_front, range_two, range_some}
-use Rattle.term_reader.proofs.SplitLemmas.{all_of, in_order_apart}
+use Rattle.term_reader.proofs.SplitLemmas.{in_order_apart}
 use Rattle.notation_parser.specs.Forms.{judged, then_ways, IsContextPlace, IsReadAround, IsReadInSlots, IsOpenForm}
 use Rattle.notation_parser.specs.Ordered.{WrittenForm}
 use Rattle.notation_parser.specs.Shapes.{ReadsContextAt, IsScopeKnown}
@@ -23,6 +23,7 @@ use Rattle.notation_parser.proofs.ContextPlaces.{one_of_none, none_behind, one_b
 use Rattle.notation_parser.proofs.FormCases.{none_of_slots, no_slot_variables, ReadsFormAt, form_items, items_form}
 use Rattle.notation_parser.proofs.Several.{InOneOf, AreApart}
 use Rattle.notation_parser.proofs.Shaped.{context_some, context_known}
+use Rattle.binding_terms.proofs.Lists.{all_contained}
 
 some_token : (ts : List Token) → ts ≢ [] → 0 < length ts
 some_token [] e = absurd (e refl)
@@ -273,7 +274,7 @@ module _ (sheet : Sheet) (scope : ReadingScope) (c : CatId) where
           )
 
       there : InOneOf (λ (d : Divided). IsReadInSlots sig scope metas ts c k d.1) all w x → IsOpenForm sig scope metas c k items ts w x
-      there h = there_slots h.0.0 h.0.1 (all_of (λ (d : Divided). IsSplit sig ts to items 0 d.0 d.1) all h.0 splits.each h.1) h.2
+      there h = there_slots h.0.0 h.0.1 (all_contained (λ (d : Divided). IsSplit sig ts to items 0 d.0 d.1) all h.0 splits.each h.1) h.2
 
       back : IsOpenForm sig scope metas c k items ts w x → InOneOf (λ (d : Divided). IsReadInSlots sig scope metas ts c k d.1) all w x
       back h =

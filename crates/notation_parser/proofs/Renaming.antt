@@ -20,7 +20,8 @@ use Rattle.term_reader.specs.Ordered.{ReadsTermAt, ReadsBracketsAt, ReadsItemsAt
 use Rattle.notation_parser.specs.Ordered.{ReadsWantedAt}
 use Rattle.notation_parser.specs.Renaming.{OccursInKnowns, OccursInWanted, renamed, renamed_values, renamed_parts, renamed_entry, renamed_context, renamed_judgment, renamed_known, renamed_written, renamed_said, KeepsUsed, KeepsKnowns, with_metas, AreReordered}
 use Rattle.notation_parser.proofs.OccurringAnew.{known_same}
-use Rattle.notation_parser.proofs.Within.{bare_occurs, parts_occur, any_front, any_back, OccursInContext, OccursInJudgment, items_within, wanted_within}
+use Rattle.notation_parser.proofs.Within.{bare_occurs, parts_occur, OccursInContext, OccursInJudgment, items_within, wanted_within}
+use Rattle.binding_terms.proofs.Lists.{any_at, any_back, any_front}
 
 -- a reading of arguments, with the lengths and the readings of the arguments
 abbrev pub ReadsArgumentsAt : Signature → List MetaDecl → List Variable → (params : List ℕ) → List Token → List ℕ → Ways → Values → Type 0
@@ -104,11 +105,6 @@ entries_renamed : (new : ℕ → ℕ) (es : List SchemeEntry) (p : ℕ) (xs : Pa
 entries_renamed new es p xs =
     map-append (renamed_entry new) es (record { prod = p; args = bare xs } ∷ [])
     ∙ ap (λ (ss : List SchemeTree). map (renamed_entry new) es ++ record { prod = p; args = ss } ∷ []) (bare_renamed new xs)
-
-any_at : {A : Type 0} (P : A → Type 0) (xs : List A) (n : ℕ) (x : A) → slice_get xs n ≡ Some x → P x → AnyByRecursion P xs
-any_at P [] n x e h = cc
-any_at P (y ∷ xs) zero x e h = let same : y ≡ x = cc in inl (subst P (sym same) h)
-any_at P (y ∷ xs) (suc n) x e h = inr (any_at P xs n x e h)
 
 module _ (sig : Signature) (metas others : List MetaDecl) (new : ℕ → ℕ) where
   pub form_renamed : {vars : List Variable} {ctx : Option CatId} {front : List Token} {items : List Item} {ts : List Token} {ss : List SchemeTree} (of_context : Way)

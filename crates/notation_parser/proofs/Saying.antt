@@ -14,15 +14,12 @@ use Rattle.rule_schemes.specs.declared.rule.Judgment.{Judgment}
 use Rattle.notation_parser.specs.Ordered.{ReadsWantedAt}
 use Rattle.notation_parser.specs.Renaming.{renamed_written, renamed_known, KeepsUsed, KeepsKnowns, OccursInWanted}
 use Rattle.notation_parser.specs.Used.{marked, marks_before, moved, Says, MayBeNew, KnownsStand}
-use Rattle.notation_parser.proofs.Marks.{place_of, marked_at, place_before, place_again, none_marked, all_marked, numbers_marked, numbered_at, all_numbered, within_marks, same_marks, moved_low, moved_high, front_at, back_at}
+use Rattle.notation_parser.proofs.Marks.{place_of, marked_at, place_before, place_again, none_marked, all_marked, numbers_marked, same_marks, moved_low, moved_high}
 use Rattle.notation_parser.proofs.OccurringAnew.{wanted_there, wanted_from}
 use Rattle.notation_parser.proofs.FirstPlaces.{IsAmong, sorted, sorted_apart, order_marked, marks_of, one_marking}
 use Rattle.notation_parser.proofs.Renaming.{wanted_renamed, written_back, knowns_back}
 use Rattle.notation_parser.proofs.Within.{AreWithin, wanted_within}
-
-all_map : {A : Type 0} (P Q : A → Type 0) → ((a : A) → P a → Q a) → (xs : List A) → AllByRecursion P xs → AllByRecursion Q xs
-all_map P Q f [] h = tt
-all_map P Q f (x ∷ xs) h = (f x h.0, all_map P Q f xs h.1)
+use Rattle.binding_terms.proofs.Lists.{all_map, all_numbered, append_behind, append_within, numbered_at, some_within}
 
 some_true : (b : Bool) → Some b ≡ Some true → b ≡ true
 some_true b e = cc
@@ -95,7 +92,7 @@ module _ (sig : Signature) (js : List Judgment) (scope : ReadingScope) (want : W
 
     mark_of : (i : ℕ) → i < length candidates → OccursInWanted (count + i) x.0 x.1 → slice_get marks i ≡ Some true
     mark_of i h o =
-        let b = within_marks marks i (omega (arith, h, long)) in
+        let b = some_within marks i (omega (arith, h, long)) in
         let t : b.0 ≡ true = (numbered_at (λ m b. IsTrue b ↔ OccursInWanted m x.0 x.1) count marks i b.0 meant b.1).1 o in
         b.1 ∙ ap Some t
 
@@ -104,12 +101,12 @@ module _ (sig : Signature) (js : List Judgment) (scope : ReadingScope) (want : W
       where
         go : (m < count) ⊎ (count ≤ m) → slice_get (scope.names.metas ++ chosen) (new m) ≡ Some decl
         go (inl lt) =
-            ap (slice_get (scope.names.metas ++ chosen)) (moved_low count (marks_before marks) m lt) ∙ front_at scope.names.metas chosen m lt ∙ sym (front_at scope.names.metas candidates m lt) ∙ e
+            ap (slice_get (scope.names.metas ++ chosen)) (moved_low count (marks_before marks) m lt) ∙ append_within scope.names.metas chosen m lt ∙ sym (append_within scope.names.metas candidates m lt) ∙ e
         go (inr ge) =
             let is : m ≡ count + (m - count) = split_at m count ge in
-            let here : slice_get candidates (m - count) ≡ Some decl = sym (back_at scope.names.metas candidates (m - count)) ∙ ap (slice_get (scope.names.metas ++ candidates)) (sym is) ∙ e in
+            let here : slice_get candidates (m - count) ≡ Some decl = sym (append_behind scope.names.metas candidates (m - count)) ∙ ap (slice_get (scope.names.metas ++ candidates)) (sym is) ∙ e in
             let mark = mark_of (m - count) (slice_get_within candidates (m - count) decl here) (subst (λ k. OccursInWanted k x.0 x.1) is o) in
-            ap (slice_get (scope.names.metas ++ chosen)) (ap new is ∙ moved_high count (marks_before marks) (m - count)) ∙ back_at scope.names.metas chosen (marks_before marks (m - count))
+            ap (slice_get (scope.names.metas ++ chosen)) (ap new is ∙ moved_high count (marks_before marks) (m - count)) ∙ append_behind scope.names.metas chosen (marks_before marks (m - count))
             ∙ marked_at marks candidates (m - count) long mark ∙ here
 
     used : AllNumbered (λ m decl. OccursInSaid m said_by) count chosen
@@ -177,13 +174,13 @@ module _ (sig : Signature) (js : List Judgment) (scope : ReadingScope) (want : W
       where
         go : (m < count) ⊎ (count ≤ m) → slice_get (scope.names.metas ++ candidates) (old m) ≡ Some decl
         go (inl lt) =
-            ap (slice_get (scope.names.metas ++ candidates)) (moved_low count (place_of marks) m lt) ∙ front_at scope.names.metas candidates m lt ∙ sym (front_at scope.names.metas said.metas m lt) ∙ e
+            ap (slice_get (scope.names.metas ++ candidates)) (moved_low count (place_of marks) m lt) ∙ append_within scope.names.metas candidates m lt ∙ sym (append_within scope.names.metas said.metas m lt) ∙ e
         go (inr ge) =
             let i = m - count in
             let is : m ≡ count + i = split_at m count ge in
-            let here : slice_get said.metas i ≡ Some decl = sym (back_at scope.names.metas said.metas i) ∙ ap (slice_get (scope.names.metas ++ said.metas)) (sym is) ∙ e in
+            let here : slice_get said.metas i ≡ Some decl = sym (append_behind scope.names.metas said.metas i) ∙ ap (slice_get (scope.names.metas ++ said.metas)) (sym is) ∙ e in
             let p = place i (slice_get_within said.metas i decl here) in
-            ap (slice_get (scope.names.metas ++ candidates)) (ap old is ∙ moved_high count (place_of marks) i) ∙ back_at scope.names.metas candidates (place_of marks i)
+            ap (slice_get (scope.names.metas ++ candidates)) (ap old is ∙ moved_high count (place_of marks) i) ∙ append_behind scope.names.metas candidates (place_of marks i)
             ∙ sym (marked_at marks candidates (place_of marks i) long p.1) ∙ ap (slice_get (marked marks candidates)) p.0 ∙ ap (λ ms. slice_get ms i) chosen_is ∙ here
 
     again : (m : ℕ) → m < length (scope.names.metas ++ said.metas) → renew (old m) ≡ m
@@ -201,7 +198,7 @@ module _ (sig : Signature) (js : List Judgment) (scope : ReadingScope) (want : W
       mark_occurs : (i : ℕ) → slice_get marks i ≡ Some true → OccursInWanted (count + i) read.0 read.1
       mark_occurs i mark =
           let j = marks_before marks i in
-          let c = within_marks candidates i (omega (arith, slice_get_within marks i true mark, long)) in
+          let c = some_within candidates i (omega (arith, slice_get_within marks i true mark, long)) in
           let at : slice_get said.metas j ≡ Some c.0 = ap (λ ms. slice_get ms j) (sym chosen_is) ∙ marked_at marks candidates i long mark ∙ c.1 in
           let o : OccursInSaid (count + j) said = numbered_at (λ m (decl : MetaDecl). OccursInSaid m said) count said.metas j c.0 used at in
           subst (λ m. OccursInWanted m read.0 read.1) (moved_high count (place_of marks) j ∙ ap (λ k. count + k) (place_again marks i mark)) (wanted_there old (count + j) said.written said.knowns o)

@@ -16,7 +16,6 @@ use Rattle.term_reader.specs.View.{token}
 use Rattle.term_reader.specs.declared.sheet.Sheet.{Sheet}
 use Rattle.term_reader.specs.declared.splitting.Split.{Split}
 use Rattle.term_reader.proofs.Pieces.{words_of, split_from, read_split}
-use Rattle.term_reader.proofs.SplitLemmas.{all_both, all_weaker, cons_cases}
 use Rattle.term_reader.proofs.Usable.{usable_splits}
 use Rattle.notation_parser.specs.Shapes.{ContextShape, scope_entry, WrittenContext, shape_variables, ReadsInShape, IsShapeBefore, AreShapesInOrder, IsUsable, IsScopeKnown, KnownsApart, context_shape}
 use Rattle.notation_parser.specs.ContextCases.{IsScopeEntryOf, AreListed, first_variable, IsEntryBy, IsScopeShape, AreScopeShapes}
@@ -24,6 +23,7 @@ use Rattle.notation_parser.specs.declared.shaping.Shape.{Shape}
 use Rattle.notation_parser.proofs.ContextEntries.{one_variable}
 use Rattle.notation_parser.proofs.NewEntries.{one_known}
 use Rattle.notation_parser.proofs.ShapeLists.{Sound, before_at, order_append}
+use Rattle.binding_terms.proofs.Lists.{all_also, all_append, cons_cases}
 
 -- the known variable with a number, by its entry's production
 entry_by : (ks : List KnownVariable) (n p : ℕ) (k : KnownVariable) → slice_get ks n ≡ Some k → k.entry.prod ≡ p → IsEntryBy ks n p
@@ -49,7 +49,7 @@ module _ (ks : List KnownVariable) (p : ℕ) where
   scope_all P Q [] all a make h = subst (AllByRecursion Q) (sym a) tt
   scope_all P Q (d ∷ ds) all (some, rest, e, here, more) make h =
       subst (AllByRecursion Q) (sym e)
-      (all_both Q some rest (one_shape_all Q d some here (λ n number by. make d n h.0 number by)) (scope_all P Q ds rest more make h.1))
+      (all_append Q some rest (one_shape_all Q d some here (λ n number by. make d n h.0 number by)) (scope_all P Q ds rest more make h.1))
 
   one_shape_is : (d : Divided) (some : List ContextShape) (n : ℕ) → KnownsApart ks → IsScopeShape ks p d some → IsKnownNumber ks (first_variable d.0).word n → IsEntryBy ks n p
       → Contains some (scope_entry p n d.1)
@@ -186,4 +186,4 @@ module _ (sheet : Sheet) (scope : ReadingScope) (c : CatId) (from to p : ℕ) (i
       within_tokens = omega (arith, within, length-map sheet.tokens.now token)
 
       usable : AllByRecursion (λ (d : Divided). AreWithin (length sheet.tokens.now) d.1) ds
-      usable = all_weaker _ (λ (d : Divided). AreWithin (length sheet.tokens.now) d.1) ds (λ d u. u.1) (usable_splits sheet (from + 1) to within_tokens items ds splits)
+      usable = all_also _ (λ (d : Divided). AreWithin (length sheet.tokens.now) d.1) ds (λ d u. u.1) (usable_splits sheet (from + 1) to within_tokens items ds splits)

@@ -6,6 +6,7 @@ use Rattle.std.proofs.lemmas.List.Elements.{Contains-push, Contains-push_cases, 
 use Rattle.term_reader.specs.Firsts.{listed, AreFirst, AreJoined, IsFull}
 use Rattle.term_reader.specs.declared.firsts.Firsts.{Firsts}
 use Rattle.term_reader.proofs.Finding.{AreFirst-same, AreFirst-joined, AreFirst-full}
+use Rattle.binding_terms.proofs.Lists.{list_around, some_in_both, some_in_more}
 
 -- in one of these
 abbrev pub InOneOf : {S K A : Type 0} → (S → K → A → Type 0) → List S → K → A → Type 0
@@ -16,40 +17,6 @@ abbrev pub AreApart : {S K A : Type 0} → (K → K → Type 0) → (S → K →
 AreApart {S} {K} {A} Before P all =
     (xs ys : List S) → xs ++ ys ≡ all → (s t : S) → Contains xs s → Contains ys t → (k l : K) (a x : A) → P s k a → P t l x → Before k l
 
--- in those of one list or of another
-pub in_both : {S : Type 0} (Q : S → Type 0) (front behind : List S) → (((s : S) × Contains front s × Q s) ⊎ ((s : S) × Contains behind s × Q s)) ↔ ((s : S) × Contains (front ++ behind) s × Q s)
-in_both {S} Q front behind = (there, λ h. which h (Contains-append_cases front behind h.0 h.1))
-  where
-    there : ((s : S) × Contains front s × Q s) ⊎ ((s : S) × Contains behind s × Q s) → (s : S) × Contains (front ++ behind) s × Q s
-    there (inl h) = (h.0, Contains-append_left front behind h.0 h.1, h.2)
-    there (inr h) = (h.0, Contains-append_right front behind h.0 h.1, h.2)
-
-    which : (h : (s : S) × Contains (front ++ behind) s × Q s) → Contains front h.0 ⊎ Contains behind h.0
-        → ((s : S) × Contains front s × Q s) ⊎ ((s : S) × Contains behind s × Q s)
-    which h (inl c) = inl (h.0, c, h.2)
-    which h (inr c) = inr (h.0, c, h.2)
-
--- in those of a list or in one more
-pub in_more : {S : Type 0} (Q : S → Type 0) (all : List S) (d : S) → (((s : S) × Contains all s × Q s) ⊎ Q d) ↔ ((s : S) × Contains (all ++ d ∷ []) s × Q s)
-in_more {S} Q all d = (there, λ h. back h (Contains-push_cases all d h.0 h.1))
-  where
-    there : ((s : S) × Contains all s × Q s) ⊎ Q d → (s : S) × Contains (all ++ d ∷ []) s × Q s
-    there (inl h) = (h.0, Contains-append_left all (d ∷ []) h.0 h.1, h.2)
-    there (inr h) = (d, Contains-push all d, h)
-
-    back : (h : (s : S) × Contains (all ++ d ∷ []) s × Q s) → Contains all h.0 ⊎ (d ≡ h.0) → ((s : S) × Contains all s × Q s) ⊎ Q d
-    back h (inl c) = inl (h.0, c, h.2)
-    back h (inr e) = inr (subst Q (sym e) h.2)
-
--- a list as what stands before one of its places and what stands from there on
-pub list_around : {R S : Type 0} (view : R → S) (all : List R) (j : ℕ) (here : R) → j < length all → here ≡ get_or all j here
-    → (map view (take (j + 1) all) ≡ map view (take j all) ++ view here ∷ []) × (map view (take j all) ++ (view here ∷ map view (drop (j + 1) all)) ≡ map view all)
-list_around view all j here lt is = (
-  map_more view all j here lt ∙ ap (λ s. map view (take j all) ++ view s ∷ []) (sym is),
-  sym (ap (map view) (sym (take-append-drop j all)) ∙ map-append view (take j all) (drop j all)
-      ∙ ap (λ qs. map view (take j all) ++ map view qs) (drop_more all j here lt ∙ ap (λ s. s ∷ drop (j + 1) all) (sym is))),
-)
-
 module _ {R S K A B : Type 0} (Before : K → K → Type 0) (view : R → S) (tell : B → A) (P : S → K → A → Type 0) where
   -- with one more of them
   pub several_more : (all : List R) (j : ℕ) (here : R) (found more new : List A) → AreApart Before P (map view all) → j < length all → here ≡ get_or all j here
@@ -59,7 +26,7 @@ module _ {R S K A B : Type 0} (Before : K → K → Type 0) (view : R → S) (te
       let front = map view (take j all) in
       let around = list_around view all j here lt is in
       subst (λ qs. AreFirst Before (InOneOf P qs) new) (sym around.0)
-      (AreFirst-same Before _ (InOneOf P (front ++ view here ∷ [])) new (λ k a. in_more (λ s. P s k a) front (view here))
+      (AreFirst-same Before _ (InOneOf P (front ++ view here ∷ [])) new (λ k a. some_in_more (λ s. P s k a) front (view here))
       (AreFirst-joined Before (InOneOf P front) (P (view here)) found more new
       (λ k l a x h i. apart front (view here ∷ map view (drop (j + 1) all)) around.1 h.0 (view here) h.1 (0, omega arith, refl) k l a x h.2 i) joined f g))
 
@@ -71,7 +38,7 @@ module _ {R S K A B : Type 0} (Before : K → K → Type 0) (view : R → S) (te
       let behind = map view (drop j all) in
       let whole : front ++ behind ≡ map view all = sym (map-append view (take j all) (drop j all)) ∙ ap (map view) (take-append-drop j all) in
       subst (λ qs. AreFirst Before (InOneOf P qs) (listed tell found)) whole
-      (AreFirst-same Before _ (InOneOf P (front ++ behind)) _ (λ k a. in_both (λ s. P s k a) front behind)
+      (AreFirst-same Before _ (InOneOf P (front ++ behind)) _ (λ k a. some_in_both (λ s. P s k a) front behind)
       (AreFirst-full Before tell (InOneOf P front) (InOneOf P behind) found full
       (λ k l a x h i. apart front behind whole h.0 i.0 h.1 i.1 k l a x h.2 i.2) f))
 

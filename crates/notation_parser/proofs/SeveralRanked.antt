@@ -7,7 +7,7 @@ use Rattle.term_reader.specs.declared.firsts.Firsts.{Firsts}
 use Rattle.term_reader.specs.declared.firsts.Firsts.TheVariants.{Nothing, One, Two}
 use Rattle.notation_parser.specs.Fronts.{AreFirstAt, AreMerged}
 use Rattle.notation_parser.proofs.FrontLemmas.{Either, AreRanked, first_same, first_enough, first_merged}
-use Rattle.notation_parser.proofs.Several.{in_both, in_more, list_around}
+use Rattle.binding_terms.proofs.Lists.{list_around, some_in_both, some_in_more}
 
 -- in one of these
 abbrev pub InOneAt : {S F K A : Type 0} → (S → F → K → A → Type 0) → List S → F → K → A → Type 0
@@ -30,7 +30,7 @@ module _ {R S F K A B : Type 0} (BeforeF : F → F → Type 0) (Before : K → K
       let front = map view (take j all) in
       let around = list_around view all j here lt is in
       subst (λ qs. AreFirstAt Before (InOneAt P qs) new) (sym around.0)
-      (first_same Before (Either (InOneAt P front) (P (view here))) (InOneAt P (front ++ view here ∷ [])) new (λ f k a. in_more (λ s. P s f k a) front (view here))
+      (first_same Before (Either (InOneAt P front) (P (view here))) (InOneAt P (front ++ view here ∷ [])) new (λ f k a. some_in_more (λ s. P s f k a) front (view here))
       (first_merged BeforeF Before trans (InOneAt P front) (P (view here)) found more new (each front (λ s h. ranked front (view here ∷ map view (drop (j + 1) all)) around.1 s (view here) h (0, omega arith, refl)))
       f g merged))
     where
@@ -50,6 +50,6 @@ module _ {R S F K A B : Type 0} (BeforeF : F → F → Type 0) (Before : K → K
       let behind = map view (drop j all) in
       let whole : front ++ behind ≡ map view all = sym (map-append view (take j all) (drop j all)) ∙ ap (map view) (take-append-drop j all) in
       subst (λ qs. AreFirstAt Before (InOneAt P qs) (listed tell (Two a b))) whole
-      (first_same Before (Either (InOneAt P front) (InOneAt P behind)) (InOneAt P (front ++ behind)) (tell a ∷ (tell b ∷ [])) (λ f k a. in_both (λ s. P s f k a) front behind)
+      (first_same Before (Either (InOneAt P front) (InOneAt P behind)) (InOneAt P (front ++ behind)) (tell a ∷ (tell b ∷ [])) (λ f k a. some_in_both (λ s. P s f k a) front behind)
       (first_enough Before (InOneAt P front) (InOneAt P behind) (tell a) (tell b)
       (λ f g k l x y p q. (ranked front behind whole p.0 q.0 p.1 q.1).else_first f g k l x y p.2 q.2 (none p.0 q.0 f g k l x y p.2 q.2)) f))

@@ -10,9 +10,9 @@ use Rattle.scheme_terms.specs.declared.scheme.MetaDecl.{MetaDecl}
 use Rattle.rule_schemes.specs.Reading.{Token, Variable, ReadingScope}
 use Rattle.rule_schemes.specs.Said.{Way, IsBefore, ComesBefore}
 use Rattle.term_reader.specs.Splitting.{Divided, AreInOrder, lengths}
-use Rattle.term_reader.proofs.SplitLemmas.{all_both, all_weaker, cons_cases}
 use Rattle.notation_parser.specs.Shapes.{ContextShape, EntryShape, entered, WrittenContext, shape_variables, ReadsInShape, IsShapeBefore, AreShapesInOrder, AreShapesOf}
 use Rattle.notation_parser.specs.ContextCases.{entry_of_split, with_entries, crossed}
+use Rattle.binding_terms.proofs.Lists.{all_also, all_always, all_append, cons_cases}
 
 -- either property
 abbrev Either : (P Q : Way → SchemeContext → List Variable → List KnownVariable → Type 0) → Way → SchemeContext → List Variable → List KnownVariable → Type 0
@@ -20,10 +20,6 @@ Either P Q w ctx vars ks = P w ctx vars ks ⊎ Q w ctx vars ks
 
 pub before_at : (v w a b : Way) → v ≡ a → w ≡ b → IsBefore a b → IsBefore v w
 before_at v w a b p q h = subst (λ k. IsBefore k w) (sym p) (subst (IsBefore a) (sym q) h)
-
-any_all : {X : Type 0} (P : X → Type 0) → ((x : X) → P x) → (xs : List X) → AllByRecursion P xs
-any_all P h [] = tt
-any_all P h (x ∷ xs) = (h x, any_all P h xs)
 
 -- shapes with an entry more
 pub all_with : (P Q : ContextShape → Type 0) (e : EntryShape) (inner : List ContextShape) → ((s : ContextShape) → P s → Q (entered s e)) → AllByRecursion P inner
@@ -45,7 +41,7 @@ module _ (p before : ℕ) (inner : List ContextShape) where
       → AllByRecursion Q (crossed p before inner ds)
   all_crossed P D Q [] h all divided = tt
   all_crossed P D Q (d ∷ ds) h all divided =
-      all_both Q (with_entries (entry_of_split p before d) inner) (crossed p before inner ds)
+      all_append Q (with_entries (entry_of_split p before d) inner) (crossed p before inner ds)
       (all_with P Q (entry_of_split p before d) inner (λ s k. h d s divided.0 k) all) (all_crossed P D Q ds h all divided.1)
 
   pub contains_crossed : (ds : List Divided) (d : Divided) (s : ContextShape) → Contains ds d → Contains inner s
@@ -103,7 +99,7 @@ module _ (sig : Signature) (scope : ReadingScope) (metas : List MetaDecl) (ts : 
       → ((w : Way) (ctx : SchemeContext) (vars : List Variable) (ks : List KnownVariable) → P w ctx vars ks ↔ Q w ctx vars ks)
       → AreShapesOf sig scope metas ts c P all → AreShapesOf sig scope metas ts c Q all
   same_shapes P Q all h s = record {
-    sound = all_weaker (Sound P) (Sound Q) all (λ t f w x r. (h w x.0 (shape_variables sig scope c.0 t) x.1).0 (f w x r)) s.sound;
+    sound = all_also (Sound P) (Sound Q) all (λ t f w x r. (h w x.0 (shape_variables sig scope c.0 t) x.1).0 (f w x r)) s.sound;
     complete = λ w ctx vars ks q. s.complete w ctx vars ks ((h w ctx vars ks).1 q);
     in_order = s.in_order;
   }
@@ -111,7 +107,7 @@ module _ (sig : Signature) (scope : ReadingScope) (metas : List MetaDecl) (ts : 
   -- one list after another, each shape of the first before all of the second
   pub order_append : (xs ys : List ContextShape) → Ordered xs → Ordered ys → AllByRecursion (λ x. AllByRecursion (Before x) ys) xs → Ordered (xs ++ ys)
   order_append [] ys h k apart = k
-  order_append (x ∷ xs) ys h k apart = (all_both (Before x) xs ys h.0 apart.0, order_append xs ys h.1 k apart.1)
+  order_append (x ∷ xs) ys h k apart = (all_append (Before x) xs ys h.0 apart.0, order_append xs ys h.1 k apart.1)
 
   -- one list after another
   pub joined_shapes : (P Q : Way → SchemeContext → List Variable → List KnownVariable → Type 0) (xs ys : List ContextShape)
@@ -119,12 +115,12 @@ module _ (sig : Signature) (scope : ReadingScope) (metas : List MetaDecl) (ts : 
       → AreShapesOf sig scope metas ts c P xs → AreShapesOf sig scope metas ts c Q ys
       → AreShapesOf sig scope metas ts c (λ w ctx vars ks. P w ctx vars ks ⊎ Q w ctx vars ks) (xs ++ ys)
   joined_shapes P Q xs ys apart f g = record {
-    sound = all_both (Sound (Either P Q)) xs ys (all_weaker (Sound P) (Sound (Either P Q)) xs (λ s h w x r. inl (h w x r)) f.sound)
-        (all_weaker (Sound Q) (Sound (Either P Q)) ys (λ s h w x r. inr (h w x r)) g.sound);
+    sound = all_append (Sound (Either P Q)) xs ys (all_also (Sound P) (Sound (Either P Q)) xs (λ s h w x r. inl (h w x r)) f.sound)
+        (all_also (Sound Q) (Sound (Either P Q)) ys (λ s h w x r. inr (h w x r)) g.sound);
     complete = complete;
     in_order = order_append xs ys f.in_order g.in_order
-        (all_weaker (Sound P) (λ s. AllByRecursion (Before s) ys) xs
-        (λ s h. all_weaker (Sound Q) (Before s) ys
+        (all_also (Sound P) (λ s. AllByRecursion (Before s) ys) xs
+        (λ s h. all_also (Sound Q) (Before s) ys
         (λ t k v w x y p q. apart v w x.0 y.0 (shape_variables sig scope c.0 s) (shape_variables sig scope c.0 t) x.1 y.1 (h v x p) (k w y q)) g.sound) f.sound);
   }
     where
@@ -155,5 +151,5 @@ module _ (sig : Signature) (scope : ReadingScope) (metas : List MetaDecl) (ts : 
       (order_crossed p before inner ds h k.1)
       (all_with (λ _. Unit {0}) (λ x. AllByRecursion (Before x) (crossed p before inner ds)) (entry_of_split p before d) inner
       (λ s _. all_crossed p before inner (λ _. Unit {0}) (λ (e : Divided). ComesBefore (lengths d.1) (lengths e.1)) (Before (entered s (entry_of_split p before d))) ds
-      (λ e t b _. split_before p before d e s t b) (any_all (λ _. Unit {0}) (λ _. tt) inner) k.0)
-      (any_all (λ _. Unit {0}) (λ _. tt) inner))
+      (λ e t b _. split_before p before d e s t b) (all_always (λ _. Unit {0}) (λ _. tt) inner) k.0)
+      (all_always (λ _. Unit {0}) (λ _. tt) inner))

@@ -11,12 +11,12 @@ use Rattle.term_reader.specs.View.{variable, in_scope}
 use Rattle.term_reader.specs.declared.sheet.Sheet.{Sheet}
 use Rattle.term_reader.specs.declared.splitting.Split.{Split}
 use Rattle.term_reader.specs.declared.variables.Var.{Var}
-use Rattle.term_reader.proofs.Usable.{mapped_around}
 use Rattle.notation_parser.specs.Shapes.{ContextShape, EntryShape, entered, shape_variables, IsUsable, entry_shape, grown, context_shape}
 use Rattle.notation_parser.specs.ContextCases.{entry_of_split, with_entries, crossed, last_binder}
 use Rattle.notation_parser.specs.declared.shaping.Entered.{Entered}
 use Rattle.notation_parser.specs.declared.shaping.Shape.{Shape}
 use Rattle.notation_parser.proofs.ShapeLists.{crossed_more}
+use Rattle.binding_terms.proofs.Lists.{mapped_around}
 
 grown_last : (s : ContextShape) (es : List EntryShape) (e : EntryShape) → grown s (es ++ e ∷ []) ≡ entered (grown s es) e
 grown_last s [] e = refl
@@ -122,12 +122,3 @@ binder_kept items j here lt is other =
     none (Word text quoted) h = refl
     none (Slot c binds) h = refl
     none (Binder c) h = absurd (h c refl)
-
--- nothing of nothing, and something of something
-pub none_mapped : {X Y : Type 0} (f : X → Y) (xs : List X) → length xs ≡ 0 → map f xs ≡ []
-none_mapped f [] e = refl
-none_mapped f (x ∷ xs) e = absurd (omega (arith, e))
-
-pub some_mapped : {X Y : Type 0} (f : X → Y) (xs : List X) → (length xs ≡ 0 → ⊥) → (map f xs ≡ [] → ⊥)
-some_mapped f [] h e = h refl
-some_mapped f (x ∷ xs) h e = cc

@@ -19,9 +19,8 @@ use Rattle.term_reader.specs.Chart.{MayBeVariable}
 use Rattle.term_reader.specs.Splitting.{AreKnown}
 use Rattle.term_reader.specs.declared.sheet.Sheet.{Sheet}
 use Rattle.term_reader.proofs.Pieces.{known_own}
-use Rattle.term_reader.proofs.SplitLemmas.{all_of, all_both, cons_cases}
-use Rattle.term_reader.proofs.TermCases.{all_at}
 use Rattle.notation_parser.specs.Shapes.{ContextShape, AreShapesInOrder, IsShapeBefore, IsScopeKnown}
+use Rattle.binding_terms.proofs.Lists.{all_append, all_at, all_contained, cons_cases}
 
 pub shapes_apart : (sig : Signature) (scope : ReadingScope) (metas : List MetaDecl) (ts : List Token) (c : CatId) (xs ys : List ContextShape) (s t : ContextShape)
     → AreShapesInOrder sig scope metas ts c (xs ++ ys) → Contains xs s → Contains ys t → IsShapeBefore sig scope metas ts c s t
@@ -30,7 +29,7 @@ shapes_apart sig scope metas ts c (z ∷ xs) ys s t order a b = go (λ d. shapes
   where
     go : (Contains xs s → IsShapeBefore sig scope metas ts c s t) → (z ≡ s) ⊎ Contains xs s → IsShapeBefore sig scope metas ts c s t
     go later (inl e) =
-        subst (λ u. IsShapeBefore sig scope metas ts c u t) e (all_of (IsShapeBefore sig scope metas ts c z) (xs ++ ys) t order.0 (Contains-append_right xs ys t b))
+        subst (λ u. IsShapeBefore sig scope metas ts c u t) e (all_contained (IsShapeBefore sig scope metas ts c z) (xs ++ ys) t order.0 (Contains-append_right xs ys t b))
     go later (inr d) = later d
 
 -- a word of a binder is a token
@@ -77,7 +76,7 @@ module _ (sheet : Sheet) (scope : ReadingScope) (known : IsScopeKnown sheet scop
   root_known (Whole r) c = which (r.0 == c)
     where
       which : (b : Bool) → AreKnown sheet (if b then scope.vars ++ known_words sheet.sig.now 0 scope.names.knowns else known_words sheet.sig.now 0 scope.names.knowns)
-      which true = all_both (λ (v : Variable). MayBeVariable sheet.sig.now sheet.words.now v.cat v.word) scope.vars (known_words sheet.sig.now 0 scope.names.knowns) known.0 known.1
+      which true = all_append (λ (v : Variable). MayBeVariable sheet.sig.now sheet.words.now v.cat v.word) scope.vars (known_words sheet.sig.now 0 scope.names.knowns) known.0 known.1
       which false = known.1
 
   -- the one variable that an entry writes

@@ -14,8 +14,7 @@ use Rattle.term_reader.specs.Firsts.{AreFirst, paired}
 use Rattle.term_reader.specs.Splitting.{SlotRange, slot_range, AreWithin, ReadsPieces}
 use Rattle.term_reader.specs.declared.splitting.Piece.{Piece}
 use Rattle.term_reader.proofs.Finding.{AreFirst-same}
-use Rattle.term_reader.proofs.Usable.{no_piece, all_at_place}
-use Rattle.term_reader.proofs.SplitLemmas.{all_both}
+use Rattle.term_reader.proofs.Usable.{no_piece}
 use Rattle.notation_parser.specs.Forms.{beside, AroundContext, IsContextPlace, IsAroundInShape, IsReadInShape, IsReadInShapes, IsReadInSlots, HasFront, IsPlacedAs}
 use Rattle.notation_parser.specs.Fronts.{AreFirstAt, AreTold}
 use Rattle.notation_parser.specs.Ordered.{WrittenForm}
@@ -23,6 +22,7 @@ use Rattle.notation_parser.specs.Shapes.{ContextShape, WrittenContext, ReadsInSh
 use Rattle.notation_parser.proofs.AroundShapes.{shape_read, have_fronts, shape_placed, shapes_read}
 use Rattle.notation_parser.proofs.ContextPlaces.{place_found}
 use Rattle.notation_parser.proofs.FrontLemmas.{first_alone}
+use Rattle.binding_terms.proofs.Lists.{all_append, all_mapped_more, all_pick}
 
 pub taken_within : (n : ℕ) (ps : List SlotRange) (place : ℕ) → AreWithin n ps → AreWithin n (take place ps)
 taken_within n ps zero h = tt
@@ -51,20 +51,15 @@ behind_within n slots place h = subst (AreWithin n) (sym (pieces_behind slots pl
 
 pub piece_within : (n : ℕ) (slots : List Piece) (place : ℕ) → place < length slots → AreWithin n (map slot_range slots)
     → ((get_or slots place no_piece).from ≤ (get_or slots place no_piece).to) × ((get_or slots place no_piece).to ≤ n)
-piece_within n slots place lt h = all_at_place slot_range (λ (p : SlotRange). (p.from ≤ p.to) × (p.to ≤ n)) slots place no_piece lt h
+piece_within n slots place lt h = all_pick slot_range (λ (p : SlotRange). (p.from ≤ p.to) × (p.to ≤ n)) slots place no_piece lt h
 
 pub piece_at : (slots : List Piece) (place : ℕ) → place < length slots → slice_get (map slot_range slots) place ≡ Some (slot_range (get_or slots place no_piece))
 piece_at slots place lt = slice_get-map slot_range slots place ∙ ap (option_map slot_range) (slice_get-get_or slots place no_piece lt)
 
--- one more of a list
-all_more : {X Y : Type 0} (f : X → Y) (P : Y → Type 0) (xs : List X) (k : ℕ) (d : X) → k < length xs → AllByRecursion P (map f (take k xs)) → P (f (get_or xs k d))
-    → AllByRecursion P (map f (take (k + 1) xs))
-all_more f P xs k d lt h p = subst (AllByRecursion P) (sym (map_more f xs k d lt)) (all_both P (map f (take k xs)) (f (get_or xs k d) ∷ []) h (p, tt))
-
 -- how far no slot of the category stands, and the first of them
 pub none_more : (c : ℕ) (slots : List Piece) (k : ℕ) → k < length slots → AllByRecursion (λ (p : SlotRange). p.cat.0 ≢ c) (map slot_range (take k slots))
     → (get_or slots k no_piece).cat.0 ≢ c → AllByRecursion (λ (p : SlotRange). p.cat.0 ≢ c) (map slot_range (take (k + 1) slots))
-none_more c slots k lt none differs = all_more slot_range (λ (p : SlotRange). p.cat.0 ≢ c) slots k no_piece lt none differs
+none_more c slots k lt none differs = all_mapped_more slot_range (λ (p : SlotRange). p.cat.0 ≢ c) slots k no_piece lt none differs
 
 pub place_here : (c : ℕ) (slots : List Piece) (k : ℕ) → k < length slots → AllByRecursion (λ (p : SlotRange). p.cat.0 ≢ c) (map slot_range (take k slots))
     → (get_or slots k no_piece).cat.0 ≡ c → IsContextPlace c k (map slot_range slots)

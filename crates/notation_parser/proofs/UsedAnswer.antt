@@ -22,6 +22,7 @@ use Rattle.notation_parser.proofs.Firsts.{first_told}
 use Rattle.notation_parser.specs.Fronts.{AreTold}
 use Rattle.notation_parser.proofs.Saying.{SaidAt, said_there, said_back, says_once, says_apart}
 use Rattle.notation_parser.proofs.Telling.{first_of_two, second_of_two, only_want, wanted_at}
+use Rattle.binding_terms.proofs.Lists.{all_append, all_map}
 
 -- what an answer tells, as a list
 abbrev TellsSaid : List Said → Reading → Type 0
@@ -93,14 +94,6 @@ module _ (sig : Signature) (js : List Judgment) (scope : ReadingScope) (want : W
       answered_by (x ∷ (y ∷ [])) (what_is_said a ∷ (what_is_said b ∷ [])) (Ambiguous a b) h f (t.0, (t.1, tt)) (refl, refl)
   used_answer (x ∷ (y ∷ [])) (TooLong k) h f t = absurd t
   used_answer (x ∷ (y ∷ (z ∷ xs))) r h f t = absurd f
-
-all_append : {A : Type 0} (P : A → Type 0) (xs ys : List A) → AllByRecursion P xs → AllByRecursion P ys → AllByRecursion P (xs ++ ys)
-all_append P [] ys h k = k
-all_append P (x ∷ xs) ys h k = (h.0, all_append P xs ys h.1 k)
-
-all_map : {A : Type 0} (P Q : A → Type 0) → ((a : A) → P a → Q a) → (xs : List A) → AllByRecursion P xs → AllByRecursion Q xs
-all_map P Q f [] h = tt
-all_map P Q f (x ∷ xs) h = (f x h.0, all_map P Q f xs h.1)
 
 apart_from : (metas more : List MetaDecl) → NamesApart metas → NamesApart more → AllByRecursion (λ (d : MetaDecl). AllByRecursion (λ (m : MetaDecl). m.name ≢ d.name) metas) more
     → NamesApart (metas ++ more)

@@ -13,6 +13,7 @@ use Rattle.rule_schemes.specs.Rules.{JudgmentScheme}
 use Rattle.rule_schemes.specs.Said.{Want, Written, ReadsWanted, reads_term, reads_judgment, reads_context, OccursInEntries}
 use Rattle.rule_schemes.specs.declared.rule.Judgment.{Judgment}
 use Rattle.notation_parser.specs.Renaming.{OccursInKnowns, OccursInWanted}
+use Rattle.binding_terms.proofs.Lists.{any_split}
 
 pub bare_occurs : (m : ℕ) (xs : Parts) → OccursInParts m xs → AnyByRecursion (OccursIn m) (bare xs)
 bare_occurs m no_parts o = o
@@ -23,24 +24,6 @@ pub parts_occur : (m : ℕ) (xs : Parts) → AnyByRecursion (OccursIn m) (bare x
 parts_occur m no_parts o = o
 parts_occur m (part n s xs) (inl o) = inl o
 parts_occur m (part n s xs) (inr o) = inr (parts_occur m xs o)
-
-pub any_front : {A : Type 0} (P : A → Type 0) (xs ys : List A) → AnyByRecursion P xs → AnyByRecursion P (xs ++ ys)
-any_front P [] ys h = absurd h
-any_front P (x ∷ xs) ys (inl h) = inl h
-any_front P (x ∷ xs) ys (inr h) = inr (any_front P xs ys h)
-
-pub any_back : {A : Type 0} (P : A → Type 0) (xs ys : List A) → AnyByRecursion P ys → AnyByRecursion P (xs ++ ys)
-any_back P [] ys h = h
-any_back P (x ∷ xs) ys h = inr (any_back P xs ys h)
-
-any_split : {A : Type 0} (P : A → Type 0) (xs ys : List A) → AnyByRecursion P (xs ++ ys) → AnyByRecursion P xs ⊎ AnyByRecursion P ys
-any_split P [] ys h = inr h
-any_split P (x ∷ xs) ys (inl h) = inl (inl h)
-any_split P (x ∷ xs) ys (inr h) = go (any_split P xs ys h)
-  where
-    go : AnyByRecursion P xs ⊎ AnyByRecursion P ys → AnyByRecursion P (x ∷ xs) ⊎ AnyByRecursion P ys
-    go (inl k) = inl (inr k)
-    go (inr k) = inr k
 
 abbrev pub OccursInContext : ℕ → SchemeContext → List KnownVariable → Type 0
 OccursInContext m ctx ks = OccursInEntries m ctx.entries ⊎ OccursInKnowns m ks

@@ -9,15 +9,7 @@ use Rattle.binding_terms.specs.declared.grammar.Item.TheVariants.{Word, Slot, Bi
 use Rattle.binding_terms.specs.declared.grammar.Prod.{Prod}
 use Rattle.user_grammar.specs.Bare.{IsBareSignature}
 use Rattle.proof_check.specs.Bare.{IsBareCategory, IsBareItem, IsBareProduction}
-
--- what holds of each of both
-zipped : {A : Type 0} (P Q : A → Type 0) (xs : List A) → AllByRecursion P xs → AllByRecursion Q xs → AllByRecursion (λ x. P x × Q x) xs
-zipped P Q [] one two = tt
-zipped P Q (x ∷ xs) one two = ((one.0, two.0), zipped P Q xs one.1 two.1)
-
-weakened : {A : Type 0} (P Q : A → Type 0) → ((x : A) → P x → Q x) → (xs : List A) → AllByRecursion P xs → AllByRecursion Q xs
-weakened P Q f [] all = tt
-weakened P Q f (x ∷ xs) all = (f x all.0, weakened P Q f xs all.1)
+use Rattle.binding_terms.proofs.Lists.{all_map, all_zipped}
 
 to_item : (items : List Item) → AllByRecursion (λ slot. slot.binds ≡ []) (slots items) → AllByRecursion IsBareItem items
 to_item [] binds = tt
@@ -36,17 +28,17 @@ IsBareByParts sig = AllByRecursion IsBareCategory sig.cats × AllByRecursion IsB
 
 to_parts : (sig : Signature) → IsBareSignature sig → IsBareByParts sig
 to_parts sig is = (
-  zipped (λ (cat : Cat). cat.context ≡ false) (λ (cat : Cat). cat.var ≡ None) sig.cats is.plain.no_context is.variables,
-  weakened (λ (prod : Prod). AllByRecursion (λ slot. slot.binds ≡ []) (slots prod.items)) IsBareProduction (λ prod binds. to_item prod.items binds) sig.prods is.plain.no_binding,
+  all_zipped (λ (cat : Cat). cat.context ≡ false) (λ (cat : Cat). cat.var ≡ None) sig.cats is.plain.no_context is.variables,
+  all_map (λ (prod : Prod). AllByRecursion (λ slot. slot.binds ≡ []) (slots prod.items)) IsBareProduction (λ prod binds. to_item prod.items binds) sig.prods is.plain.no_binding,
 )
 
 from_parts : (sig : Signature) → IsBareByParts sig → IsBareSignature sig
 from_parts sig is = record {
   plain = record {
-    no_context = weakened IsBareCategory (λ (cat : Cat). cat.context ≡ false) (λ cat both. both.0) sig.cats is.0;
-    no_binding = weakened IsBareProduction (λ (prod : Prod). AllByRecursion (λ slot. slot.binds ≡ []) (slots prod.items)) (λ prod all. to_binds prod.items all) sig.prods is.1;
+    no_context = all_map IsBareCategory (λ (cat : Cat). cat.context ≡ false) (λ cat both. both.0) sig.cats is.0;
+    no_binding = all_map IsBareProduction (λ (prod : Prod). AllByRecursion (λ slot. slot.binds ≡ []) (slots prod.items)) (λ prod all. to_binds prod.items all) sig.prods is.1;
   };
-  variables = weakened IsBareCategory (λ (cat : Cat). cat.var ≡ None) (λ cat both. both.1) sig.cats is.0;
+  variables = all_map IsBareCategory (λ (cat : Cat). cat.var ≡ None) (λ cat both. both.1) sig.cats is.0;
 }
 
 -- the test of the parts is the test of the signature

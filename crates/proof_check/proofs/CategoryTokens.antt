@@ -14,7 +14,8 @@ use Rattle.outline_reader.specs.Plain.{PlainPortion, plain_portion}
 use Rattle.outline_reader.specs.Portions.{begins, names_category, portion_length, portion_size, portion, portions, case_head, category_line}
 use Rattle.outline_reader.specs.Views.{Piece}
 use Rattle.user_grammar.specs.File.{WrittenCategory, category_in, categories}
-use Rattle.proof_check.proofs.PortionTokens.{Among, any_split, any_drop, BehindName, OfPortion, portion_among, piece_of, InPieces, portions_among, in_this, category_portion}
+use Rattle.proof_check.proofs.PortionTokens.{Among, BehindName, OfPortion, portion_among, piece_of, InPieces, portions_among, in_this, category_portion}
+use Rattle.binding_terms.proofs.Lists.{any_drop, any_split, drop_none}
 
 -- each token begins before all that follow it
 abbrev pub Rising : List Token → Type 0
@@ -60,10 +61,6 @@ taken_before (suc k) (t ∷ tokens) one two rises (inr is) other = taken_before 
 no_portions : (roles : List Role) → portions roles [] ≡ []
 no_portions [] = refl
 no_portions (first ∷ roles) = refl
-
-drop_none : {A : Type 0} (k : ℕ) → drop k (let xs : List A = [] in xs) ≡ []
-drop_none zero = refl
-drop_none (suc k) = refl
 
 one_more : (n : ℕ) → suc n ≡ n + 1
 one_more n = (omega arith)

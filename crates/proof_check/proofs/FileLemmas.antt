@@ -23,11 +23,7 @@ use Rattle.outline_reader.specs.Plain.{PlainPortion, terminals, syntax_word, cat
 use Rattle.proof_check.specs.Finding.{Finds, Begins}
 use Rattle.proof_check.specs.Plain.{ArePlainStatements}
 use Rattle.proof_check.specs.Steps.{HoldsNoProof, BeginsProof, AreStepsFrom, AreProofSteps}
-use Rattle.proof_check.proofs.NumberLemmas.{all_at}
-
-all_front : {A : Type 0} (P : A → Type 0) (xs ys : List A) → AllByRecursion P (xs ++ ys) → AllByRecursion P xs
-all_front P [] ys all = tt
-all_front P (x ∷ xs) ys all = (all.0, all_front P xs ys all.1)
+use Rattle.binding_terms.proofs.Lists.{all_at, all_front}
 
 apart_front : (xs ys : List MetaDecl) → NamesApart (xs ++ ys) → NamesApart xs
 apart_front [] ys apart = tt

@@ -3,6 +3,7 @@ use Rattle.std.proofs.Common.{◌≡◌, ◌<◌, ◌+◌, ℕ, List, [], ◌∷
 use Rattle.std.proofs.lemmas.List.{append-nil, drop_more}
 use Rattle.std.specs.List.{AllZip}
 use Rattle.proof_check.specs.Finding.{Finds, Begins}
+use Rattle.binding_terms.proofs.Lists.{zip_empty}
 
 pub begins_at_start : {A : Type 0} (P : List A → Type 0) → Begins P P []
 begins_at_start P = record { sound = λ rest h. h; complete = λ all h. (all, refl, h) }
@@ -39,14 +40,6 @@ pub zip_none : {A B : Type 0} (C : A → B → Type 0) (a : A) (rest : List A) �
 zip_none C a rest f [] h = h
 zip_none C a rest f (n ∷ ns) h = f n h.0
 
-pub zip_end : {A B : Type 0} (C : A → B → Type 0) (ns : List B) → AllZip C [] ns → ns ≡ []
-zip_end C [] h = refl
-zip_end C (n ∷ ns) h = absurd h
-
--- what is left of a list is its next element and what is left behind it
-pub left : {A : Type 0} (xs : List A) (i : ℕ) (x : A) → i < length xs → x ≡ get_or xs i x → drop i xs ≡ x ∷ drop (i + 1) xs
-left xs i x lt is = drop_more xs i x lt ∙ ap (λ y. y ∷ drop (i + 1) xs) (sym is)
-
 -- the same in a loop over a list that is seen in another way
 module _ {X A B : Type 0} (V : List X → List A) (v : X → A) (same : (x : X) (xs : List X) → V (x ∷ xs) ≡ v x ∷ V xs) (C : A → B → Type 0) where
   pub zip_turn : (xs : List X) (i : ℕ) (d : X) (n : B) → i < length xs → Finds (C (v (get_or xs i d))) (Some n) →
@@ -63,4 +56,4 @@ module _ {X A B : Type 0} (V : List X → List A) (v : X → A) (same : (x : X) 
   pub zip_past : (xs : List X) (i : ℕ) → length xs ≤ i → V [] ≡ [] → drop i xs ≡ [] → (AllZip C (V (drop i xs)) []) × ((ns : List B) → AllZip C (V (drop i xs)) ns → ns ≡ [])
   zip_past xs i past empty gone =
       let e : V (drop i xs) ≡ [] = ap V gone ∙ empty in
-      (subst (λ (ys : List A). AllZip C ys []) (sym e) tt, λ ns h. zip_end C ns (subst (λ (ys : List A). AllZip C ys ns) e h))
+      (subst (λ (ys : List A). AllZip C ys []) (sym e) tt, λ ns h. zip_empty C ns (subst (λ (ys : List A). AllZip C ys ns) e h))

@@ -9,10 +9,7 @@ use Rattle.std.proofs.lemmas.List.Sums.{sum_by-take-le}
 use Rattle.sy_base.specs.Tokens.{PlainToken, AreTokens}
 use Rattle.sy_base.specs.TokenLaws.{StandsInSource, AreInOrder, TokensStandInSource}
 use Rattle.proof_check.specs.NotBuilt.{StandsFirst}
-
-all_at_split : {A : Type 0} (P : A → Type 0) (xs ys : List A) (x : A) → AllByRecursion P (xs ++ x ∷ ys) → P x
-all_at_split P [] ys x all = all.0
-all_at_split P (z ∷ xs) ys x all = all_at_split P xs ys x all.1
+use Rattle.binding_terms.proofs.Lists.{all_middle}
 
 -- a token behind others begins where these end, or later
 later : (source : List ℕ) (end : ℕ) (front rest : List PlainToken) (token : PlainToken) → AreInOrder end (front ++ token ∷ rest) →
@@ -96,8 +93,8 @@ pub stands_first : (source : List ℕ) (tokens front others rest behind : List P
 stands_first source tokens front others rest behind token other law are split other_split le =
     let stand = law source tokens are in
     let all = subst (AllByRecursion (StandsInSource source)) split stand.0 in
-    stands_by_place source token other (all_at_split (StandsInSource source) front rest token all)
-    (all_at_split (StandsInSource source) others behind other (subst (AllByRecursion (StandsInSource source)) other_split stand.0))
+    stands_by_place source token other (all_middle (StandsInSource source) front rest token all)
+    (all_middle (StandsInSource source) others behind other (subst (AllByRecursion (StandsInSource source)) other_split stand.0))
     (from_order source 0 front others rest behind token other (subst (AreInOrder 0) split stand.1) all (sym split ∙ other_split) le)
 
 pub first_trans : (one two three : PlainToken) → StandsFirst one two → StandsFirst two three → StandsFirst one three

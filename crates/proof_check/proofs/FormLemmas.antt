@@ -19,7 +19,7 @@ use Rattle.term_reader.specs.View as parser
 use Rattle.outline_reader.specs.Plain.{taken}
 use Rattle.judgments.specs.Written.{settled, ReadsOnlyAs}
 use Rattle.proof_check.specs.Finding.{Finds}
-use Rattle.proof_check.proofs.NumberLemmas.{all_at}
+use Rattle.binding_terms.proofs.Lists.{all_at}
 
 same_kind : (k : Kind) → parser.kind_number k ≡ lexer.kind_number k
 same_kind Word = refl

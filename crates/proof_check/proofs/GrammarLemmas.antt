@@ -12,8 +12,9 @@ use Rattle.outline_reader.specs.Plain.{PlainPortion, terminals, category, judgme
 use Rattle.user_grammar.specs.File.{WrittenCategory, categories}
 use Rattle.user_grammar.specs.Fault.{Declared, declared_as, a_terminal, a_variable, DeclareAll, DeclaresHere, AreVariables, no_variables, a_word, a_production, IsDuplicate, common_spelling, second_variable, IsWrongInBrackets, no_word, no_binder, again, no_comma, not_closed, AssumesHere, IsFault, duplicate, empty_production, single_category, unknown_word, unknown_context, bad_binder, binder_twice, bad_context, IsFirstFault, IsToldFirst, rank}
 use Rattle.proof_check.proofs.TokenLemmas.{same_place}
-use Rattle.proof_check.proofs.PortionTokens.{In, contains_any, any_one, any_split, in_split, InForms, BehindName, InPortion, of_source, category_portion}
+use Rattle.proof_check.proofs.PortionTokens.{In, in_split, InForms, BehindName, InPortion, of_source, category_portion}
 use Rattle.proof_check.proofs.CategoryTokens.{IsCategoryIn, rising, one_name}
+use Rattle.binding_terms.proofs.Lists.{any_one, any_split, contains_any}
 
 -- ---- the token of a fault
 

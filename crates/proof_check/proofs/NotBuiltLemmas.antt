@@ -20,10 +20,7 @@ use Rattle.proof_check.specs.NotBuilt.{judgment_word, IsFirstJudgment, HasVariab
 use Rattle.proof_check.specs.Places.{NoneAmongFirst, IsFirstUnbuilt, FindsUnbuilt, FindsJudgment, FindsNotBuilt, IsEarlier, IsEarlierIfAny}
 use Rattle.proof_check.proofs.FirstLemmas.{stands_first, first_trans, first_itself, first_line}
 use Rattle.proof_check.proofs.FaultLemmas.{portions_exclude, same_outline_fault}
-
-below_whole : {A : Type 0} (front rest : List A) (x : A) → length front < length (front ++ x ∷ rest)
-below_whole [] rest x = (omega arith)
-below_whole (y ∷ front) rest x = let below = below_whole front rest x in (omega arith)
+use Rattle.binding_terms.proofs.Lists.{below_whole}
 
 -- none of the tokens of the source is not built by its token
 none_by_token : (source : List ℕ) (tokens : List PlainToken) → AreTokens source tokens → NoneAmongFirst tokens (length tokens) →

@@ -7,29 +7,11 @@ use Rattle.rule_schemes.specs.View.{rule}
 use Rattle.rule_schemes.specs.declared.rule.RuleScheme.{RuleScheme}
 use Rattle.proof_check.specs.Finding.{Finds}
 use Rattle.proof_check.specs.Cited.{IsNumberOf}
-
--- what holds of each element, of one more
-pub all_push : {A : Type 0} (P : A → Type 0) (xs : List A) (x : A) → AllByRecursion P xs → P x → AllByRecursion P (xs ++ x ∷ [])
-all_push P [] x all here = (here, all)
-all_push P (y ∷ ys) x all here = (all.0, all_push P ys x all.1 here)
-
-pub all_more : {A : Type 0} (P : A → Type 0) (xs : List A) (i : ℕ) (x : A) → i < length xs → x ≡ get_or xs i x → P x → AllByRecursion P (take i xs) → AllByRecursion P (take (i + 1) xs)
-all_more P xs i x lt is here all =
-    subst (AllByRecursion P) (sym (take_more xs i x lt ∙ ap (λ y. take i xs ++ y ∷ []) (sym is))) (all_push P (take i xs) x all here)
-
-pub all_at : {A : Type 0} (P : A → Type 0) (xs : List A) (i : ℕ) (x : A) → AllByRecursion P xs → slice_get xs i ≡ Some x → P x
-all_at P [] i x all e = absurd cc
-all_at P (y ∷ ys) zero x all e = subst P (let same : y ≡ x = cc in same) all.0
-all_at P (y ∷ ys) (suc i) x all e = all_at P ys i x all.1 e
+use Rattle.binding_terms.proofs.Lists.{all_at, map_same, take_map}
 
 all_named : {A : Type 0} (f : A → List ℕ) (name : List ℕ) (xs : List A) → AllByRecursion (λ x. f x ≢ name) xs → AllByRecursion (λ other. other ≢ name) (map f xs)
 all_named f name [] all = all
 all_named f name (x ∷ xs) all = (all.0, all_named f name xs all.1)
-
-take_map : {A B : Type 0} (f : A → B) (i : ℕ) (xs : List A) → map f (take i xs) ≡ take i (map f xs)
-take_map f zero xs = refl
-take_map f (suc i) [] = refl
-take_map f (suc i) (x ∷ xs) = ap (λ r. f x ∷ r) (take_map f i xs)
 
 number_same : (name : List ℕ) (names : List (List ℕ)) (m n : ℕ) → IsNumberOf name names m → IsNumberOf name names n → n ≡ m
 number_same name [] m n a b = absurd (let e = a.0 in cc)
@@ -54,10 +36,6 @@ pub none_found : {A : Type 0} (f : A → List ℕ) (name : List ℕ) (xs : List 
 none_found f name xs i past before n h =
     let all : AllByRecursion (λ x. f x ≢ name) xs = subst (AllByRecursion (λ x. f x ≢ name)) (take_all i xs past) before in
     all_at (λ (other : List ℕ). other ≢ name) (map f xs) n name (all_named f name xs all) h.0 refl
-
-map_same : {A : Type 0} (xs : List A) → map (λ x. x) xs ≡ xs
-map_same [] = refl
-map_same (x ∷ xs) = ap (λ r. x ∷ r) (map_same xs)
 
 pub name_found : (name : List ℕ) (names : List (List ℕ)) (i : ℕ) (x : List ℕ) → i < length names → x ≡ get_or names i x → x ≡ name →
     AllByRecursion (λ other. other ≢ name) (take i names) → Finds (IsNumberOf name names) (Some i)

@@ -7,34 +7,7 @@ use Rattle.sy_base.specs.Tokens.{PlainToken}
 use Rattle.user_grammar.specs.Production.{IsMark}
 use Rattle.proof_check.specs.NotBuilt.{IsWord, IsUnbuiltWord, IsReservedWord, IsName, IsCallee, BeginsWithColon, EndsInSyntax, the_word, another, EndsWith, IsUnbuiltAt, a_word, a_bracket, behind_by, syntax_input}
 use Rattle.proof_check.specs.Places.{NoneAmongFirst}
-
--- lists with one last element each
-pub same_last : {A : Type 0} (xs ys : List A) (x y : A) → xs ++ x ∷ [] ≡ ys ++ y ∷ [] → (xs ≡ ys) × (x ≡ y)
-same_last [] [] x y e = (refl, cc)
-same_last [] (b ∷ []) x y e = absurd (let no : [] ≡ y ∷ [] = cc in cc)
-same_last [] (b ∷ c ∷ ys) x y e = absurd (let no : [] ≡ c ∷ (ys ++ y ∷ []) = cc in cc)
-same_last (a ∷ []) [] x y e = absurd (let no : x ∷ [] ≡ [] = cc in cc)
-same_last (a ∷ c ∷ xs) [] x y e = absurd (let no : c ∷ (xs ++ x ∷ []) ≡ [] = cc in cc)
-same_last (a ∷ xs) (b ∷ ys) x y e =
-    let first : a ≡ b = cc in
-    let rest : xs ++ x ∷ [] ≡ ys ++ y ∷ [] = cc in
-    let same = same_last xs ys x y rest in
-    (λ i. first i ∷ same.0 i, same.1)
-
-no_last : {A : Type 0} (xs : List A) (x : A) → [] ≡ xs ++ x ∷ [] → ⊥
-no_last [] x e = cc
-no_last (y ∷ xs) x e = cc
-
--- two splits at one place
-pub same_split : {A : Type 0} (xs ys : List A) (x y : A) (us vs : List A) → xs ++ x ∷ us ≡ ys ++ y ∷ vs → length xs ≡ length ys → (xs ≡ ys) × (x ≡ y) × (us ≡ vs)
-same_split [] [] x y us vs e n = (refl, cc, cc)
-same_split [] (b ∷ ys) x y us vs e n = absurd cc
-same_split (a ∷ xs) [] x y us vs e n = absurd cc
-same_split (a ∷ xs) (b ∷ ys) x y us vs e n =
-    let first : a ≡ b = cc in
-    let rest : xs ++ x ∷ us ≡ ys ++ y ∷ vs = cc in
-    let same = same_split xs ys x y us vs rest (let m : length xs ≡ length ys = cc in m) in
-    (λ i. first i ∷ same.0 i, same.1, same.2)
+use Rattle.binding_terms.proofs.Lists.{nothing_pushed, same_last, same_split}
 
 -- ---- what is kept of the tokens before a place
 
@@ -42,11 +15,11 @@ syntax_reserved : (token : PlainToken) → IsWord (codes "syntax") token → IsR
 syntax_reserved token is = record { word = is.0; among = inr (inl (sym is.1)) }
 
 pub none_in_syntax : EndsInSyntax [] → ⊥
-none_in_syntax (the_word before word split is) = no_last before word split
-none_in_syntax (another before token split not_reserved ends) = no_last before token split
+none_in_syntax (the_word before word split is) = nothing_pushed before word split
+none_in_syntax (another before token split not_reserved ends) = nothing_pushed before token split
 
 pub none_before : (word : List ℕ) → EndsWith word [] → ⊥
-none_before word ends = no_last ends.before ends.last ends.split
+none_before word ends = nothing_pushed ends.before ends.last ends.split
 
 pub behind_word : (word : List ℕ) (tokens : List PlainToken) (token : PlainToken) → IsWord word token ↔ EndsWith word (tokens ++ token ∷ [])
 behind_word word tokens token = (

@@ -15,6 +15,7 @@ use Rattle.outline_reader.specs.Portions.{begins, names_category, portion_size, 
 use Rattle.outline_reader.specs.Views.{Piece}
 use Rattle.user_grammar.specs.File.{WrittenCategory, category_in, categories}
 use Rattle.proof_check.proofs.TokenLemmas.{IsTokenOf, StandsAmong}
+use Rattle.binding_terms.proofs.Lists.{any_drop, any_split, any_take}
 
 -- ---- members of lists
 
@@ -25,45 +26,9 @@ In tokens token = AnyByRecursion (λ one. one ≡ token) tokens
 abbrev pub Among : List Token → PlainToken → Type 0
 Among tokens token = AnyByRecursion (λ one. token_view one ≡ token) tokens
 
-pub contains_any : {A : Type 0} (xs : List A) (x : A) (k : ℕ) → k < length xs → slice_index_or xs k x ≡ x → AnyByRecursion (λ y. y ≡ x) xs
-contains_any [] x k lt e = absurd (never k lt)
-  where
-    never : (k : ℕ) → k < 0 → ⊥
-    never k lt = (omega arith)
-contains_any (y ∷ ys) x zero lt e = inl e
-contains_any (y ∷ ys) x (suc k) lt e = inr (contains_any ys x k (less k (length ys) lt) e)
-  where
-    less : (m n : ℕ) → suc m < suc n → m < n
-    less m n lt = (omega arith)
-
-pub any_one : {A : Type 0} (P : A → Type 0) (xs : List A) (x : A) → AnyByRecursion (λ y. y ≡ x) xs → P x → AnyByRecursion P xs
-any_one P [] x is here = absurd is
-any_one P (y ∷ ys) x (inl same) here = inl (subst P (sym same) here)
-any_one P (y ∷ ys) x (inr is) here = inr (any_one P ys x is here)
-
-pub any_split : {A : Type 0} (P : A → Type 0) (xs ys : List A) → AnyByRecursion P (xs ++ ys) → AnyByRecursion P xs ⊎ AnyByRecursion P ys
-any_split P [] ys is = inr is
-any_split P (x ∷ xs) ys (inl here) = inl (inl here)
-any_split P (x ∷ xs) ys (inr is) = which (any_split P xs ys is)
-  where
-    which : AnyByRecursion P xs ⊎ AnyByRecursion P ys → AnyByRecursion P (x ∷ xs) ⊎ AnyByRecursion P ys
-    which (inl there) = inl (inr there)
-    which (inr there) = inr there
-
 pub in_split : (front rest : List PlainToken) (token : PlainToken) → In (front ++ token ∷ rest) token
 in_split [] rest token = inl refl
 in_split (t ∷ front) rest token = inr (in_split front rest token)
-
-any_take : {A : Type 0} (P : A → Type 0) (n : ℕ) (xs : List A) → AnyByRecursion P (take n xs) → AnyByRecursion P xs
-any_take P zero xs is = absurd is
-any_take P (suc n) [] is = absurd is
-any_take P (suc n) (x ∷ xs) (inl here) = inl here
-any_take P (suc n) (x ∷ xs) (inr is) = inr (any_take P n xs is)
-
-pub any_drop : {A : Type 0} (P : A → Type 0) (n : ℕ) (xs : List A) → AnyByRecursion P (drop n xs) → AnyByRecursion P xs
-any_drop P zero xs is = is
-any_drop P (suc n) [] is = absurd is
-any_drop P (suc n) (x ∷ xs) is = inr (any_drop P n xs is)
 
 among_form : (form : List Token) (token : PlainToken) → In (plain_form form) token → Among form token
 among_form [] token is = absurd is

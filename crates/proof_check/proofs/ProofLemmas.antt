@@ -11,7 +11,8 @@ use Rattle.outline_reader.specs.Plain.{PlainPortion, terminals, syntax_word, cat
 use Rattle.proof_check.specs.Finding.{Finds, Begins, Adds}
 use Rattle.proof_check.specs.Steps.{MadeStep, StandsFor, IsProofEnd, AreStepsFrom, AreProofSteps}
 use Rattle.proof_check.specs.View.{plain_portions}
-use Rattle.proof_check.proofs.FindingLemmas.{begins_at_start, begins_then, left}
+use Rattle.proof_check.proofs.FindingLemmas.{begins_at_start, begins_then}
+use Rattle.binding_terms.proofs.Lists.{drop_from}
 
 pub adds_then : {A : Type 0} (old mid new g : List A) (P Q R : List A → Type 0) → Adds old mid P Q → new ≡ mid ++ g → Begins Q R g → Adds old new P R
 adds_then old mid new g P Q R a e b =
@@ -70,4 +71,4 @@ adds_nothing old P = ([], sym (append-nil old), begins_at_start P)
 -- the portions from a place on
 pub seen_at : (portions : List Portion) (i : ℕ) (p : Portion) (plain : PlainPortion) → i < length portions → p ≡ get_or portions i p → plain_portion (portion_view p) ≡ plain →
     plain_portions (drop i portions) ≡ plain ∷ plain_portions (drop (i + 1) portions)
-seen_at portions i p plain lt is same = ap plain_portions (left portions i p lt is) ∙ ap (λ (q : PlainPortion). q ∷ plain_portions (drop (i + 1) portions)) same
+seen_at portions i p plain lt is same = ap plain_portions (drop_from portions i p lt is) ∙ ap (λ (q : PlainPortion). q ∷ plain_portions (drop (i + 1) portions)) same

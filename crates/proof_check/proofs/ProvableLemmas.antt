@@ -13,22 +13,7 @@ use Rattle.judgments.specs.Texts.{TheoremText}
 use Rattle.judgments.specs.Statements.{IsTheoremOf}
 use Rattle.core_proofs.specs.Provable.{IsProvable, IsOfDerivation}
 use Rattle.proof_check.specs.Plain.{ArePlainStatements}
-
--- facts of each element follow from other facts of each
-pub all_weaker : {A : Type 0} {P Q : A → Type 0} → ((x : A) → P x → Q x) → (xs : List A) → AllByRecursion P xs → AllByRecursion Q xs
-all_weaker weaker [] h = tt
-all_weaker weaker (x ∷ xs) h = (weaker x h.0, all_weaker weaker xs h.1)
-
-pub numbered_weaker : {A : Type 0} {P Q : ℕ → A → Type 0} → ((k : ℕ) (x : A) → P k x → Q k x) → (n : ℕ) (xs : List A) → AllNumbered P n xs → AllNumbered Q n xs
-numbered_weaker weaker n [] h = tt
-numbered_weaker weaker n (x ∷ xs) h = (weaker n x h.0, numbered_weaker weaker (suc n) xs h.1)
-
--- numbered facts of two lists, one behind the other
-pub numbered_joined : {A : Type 0} {P Q R : ℕ → A → Type 0} → ((k : ℕ) (x : A) → P k x → R k x) → ((k : ℕ) (x : A) → Q k x → R k x)
-    → (n : ℕ) (xs ys : List A) → AllNumbered P n xs → AllNumbered Q (n + length xs) ys → AllNumbered R n (xs ++ ys)
-numbered_joined {Q = Q} one other n [] ys h k = numbered_weaker other n ys (subst (λ (m : ℕ). AllNumbered Q m ys) (omega arith) k)
-numbered_joined {Q = Q} one other n (x ∷ xs) ys h k =
-    (one n x h.0, numbered_joined one other (suc n) xs ys h.1 (subst (λ (m : ℕ). AllNumbered Q m ys) (omega arith) k))
+use Rattle.binding_terms.proofs.Lists.{all_weaker, numbered_joined, numbered_weaker}
 
 first_apart : (name : List ℕ) (metas : List MetaDecl) (more : List (List ℕ)) → AllByRecursion (λ other. name ≢ other) (map (λ m. m.name) metas ++ more)
     → AllByRecursion (λ n. name ≢ n.name) metas

@@ -13,15 +13,11 @@ use Rattle.proof_check.specs.Cited.{IsNumberOf, IsCitedAs, MayBeGiven}
 use Rattle.proof_check.specs.Written.{IsFormOf, Says}
 use Rattle.proof_check.specs.Steps.{IsStepOf, by_its_rule, MadeStep, StandsFor}
 use Rattle.proof_check.specs.Finding.{Finds}
+use Rattle.binding_terms.proofs.Lists.{only_element}
 
 pub if_ok : {T E : Type 0} (r : Result T E) (P Q : T → Type 0) → ((x : T) → P x → Q x) → IfOk r P → IfOk r Q
 if_ok (Ok x) P Q f h = f x h
 if_ok (Err e) P Q f h = h
-
-pub only_element : {A : Type 0} (xs : List A) (d : A) → length xs ≡ 1 → xs ≡ get_or xs 0 d ∷ []
-only_element [] d e = absurd (omega (arith, e))
-only_element (x ∷ []) d e = refl
-only_element (x ∷ (y ∷ ys)) d e = absurd (omega (arith, e))
 
 -- a name and a form, each the one
 pub pair_found : (n m : List ℕ) (M : Type 0) (F : JudgmentScheme → Type 0) (j : JudgmentScheme) → m ≡ n → M → Finds F (Some j) →

@@ -14,8 +14,8 @@ use Rattle.outline_reader.specs.Plain.{PlainPortion, plain_portion}
 use Rattle.outline_reader.specs.Portions.{begins, names_category, portion_size, portion, portions, case_head, category_line}
 use Rattle.outline_reader.specs.Views.{Piece}
 use Rattle.proof_check.specs.NotBuilt.{judgment_word, IsFirstJudgment, IsNotBuilt, by_its_token, of_a_judgment, IsFirstNotBuilt}
-use Rattle.proof_check.proofs.PlaceLemmas.{same_split}
 use Rattle.proof_check.proofs.FirstLemmas.{first_both, stands_before}
+use Rattle.binding_terms.proofs.Lists.{same_split}
 
 -- the token is one of these
 pub record StandsAmong (tokens : List PlainToken) (token : PlainToken) : Type 0 where

@@ -16,17 +16,11 @@ use Rattle.scheme_terms.specs.declared.scheme.Root.{Root}
 use Rattle.scheme_terms.specs.declared.scheme.Root.TheVariants.{Closed, Empty, Whole}
 use Rattle.scheme_terms.proofs.InstanceScopes.{instance_keeps_scope_of_metas}
 use Rattle.scheme_terms.proofs.Values.{value_adds_one, entry_variable}
-use Rattle.scheme_terms.proofs.Options.{match_some}
 use Rattle.binding_terms.proofs.Scopes.{put_keeps_scope}
 use Rattle.rule_schemes.specs.Rules.{JudgmentValue, Rule, Theory, IsSystemSoFar, IsJudgment, JudgmentFits, RuleFits, IsRootOf, IsBareName, IsAssumption, IsInstance, IsItsEntry, root_of, argument_slots, judgment_instance, rule_names, IsAssumptionJudgment}
 use Rattle.rule_schemes.specs.Derivation.{node, leaf}
 use Rattle.rule_schemes.specs.Laws.{DerivesAJudgment}
-use Rattle.rule_schemes.proofs.PlainLemmas.{found}
-
--- a fact of what an option holds, from another
-match_map : {A : Type 0} (o : Option A) (P Q : A → Type 0) → ((a : A) → P a → Q a) → MatchOption o ⊥ P → MatchOption o ⊥ Q
-match_map None P Q f h = h
-match_map (Some a) P Q f h = f a h
+use Rattle.binding_terms.proofs.Lists.{all_found, found_with, match_map, match_some}
 
 -- the instance of a bare context is a value of the root that the judgment assumes, and adds no variable to the root's
 bare_value : (sig : Signature) (inst : Instance) (ctx : Option CatId) (root : Root) (es : List SchemeEntry) → IsBareName root es → IsRootOf ctx root
@@ -97,12 +91,6 @@ its_entry inst place (Whole c) [] h = absurd h
 its_entry inst place (Whole c) (e ∷ []) h = (c, e, refl, refl, h)
 its_entry inst place (Whole c) (e ∷ (f ∷ es)) h = absurd h
 
-found_with : {A : Type 0} (P Q : A → Type 0) (xs : List A) (n : ℕ) → AllByRecursion P xs → MatchOption (slice_get xs n) ⊥ Q
-    → MatchOption (slice_get xs n) ⊥ (λ x. P x × Q x)
-found_with P Q [] n all h = h
-found_with P Q (x ∷ xs) zero all h = (all.0, h)
-found_with P Q (x ∷ xs) (suc n) all h = found_with P Q xs n all.1 h
-
 one_of : (xs : List ℕ) → length xs ≡ 1 → (v : ℕ) × (xs ≡ v ∷ [])
 one_of [] h = absurd (omega (arith, h))
 one_of (x ∷ []) h = (x, refl)
@@ -165,8 +153,8 @@ leaf_judgment th r v place j system fits h =
 
 pub derives_a_judgment : DerivesAJudgment
 derives_a_judgment th (node r j ds) system h =
-    let rule = found th.rules r system.rules h.0 in
+    let rule = all_found th.rules r system.rules h.0 in
     node_judgment th rule.0 j rule.2.inst rule.1 rule.2.ordinary rule.2.scope rule.2.conclusion
 derives_a_judgment th (leaf r j place) system h =
-    let rule = found th.rules r system.rules h in
+    let rule = all_found th.rules r system.rules h in
     leaf_judgment th rule.0 j.context place j system rule.1 rule.2

@@ -14,14 +14,7 @@ use Rattle.scheme_terms.specs.declared.scheme.Root.TheVariants.{Closed, Empty, W
 use Rattle.rule_schemes.specs.Rules.{JudgmentScheme, Rule, Theory, JudgmentFits, IsRootOf, IsBareName, HasForms, RuleFits, HasGoodConclusion, MayStand, IsSystem, assumed_by, assumed, rule_names}
 use Rattle.rule_schemes.specs.Plain.{IsPlainSignature, HasPlainNames, IsPlainSystem}
 use Rattle.rule_schemes.specs.Refused.{IsFirstMisplaced, with_rule, AssumeAlike}
-
-pub AllByRecursion-map : {A : Type 0} {P Q : A → Type 0} → ((x : A) → P x → Q x) → (xs : List A) → AllByRecursion P xs → AllByRecursion Q xs
-AllByRecursion-map f [] all = tt
-AllByRecursion-map f (x ∷ xs) all = (f x all.0, AllByRecursion-map f xs all.1)
-
-pub AllByRecursion-append : {A : Type 0} (P : A → Type 0) (xs : List A) (x : A) → AllByRecursion P xs → P x → AllByRecursion P (xs ++ x ∷ [])
-AllByRecursion-append P [] x all here = (here, tt)
-AllByRecursion-append P (y ∷ ys) x all here = (all.0, AllByRecursion-append P ys x all.1 here)
+use Rattle.binding_terms.proofs.Lists.{all_found, all_push, all_weaker}
 
 -- no category is one of contexts
 no_context : (cats : List Cat) (c : ℕ) → AllByRecursion (λ cat. cat.context ≡ false) cats
@@ -40,11 +33,6 @@ pub record IsClosedForm (context : SchemeContext) : Type 0 where
   pub root : context.root ≡ Closed
   pub entries : context.entries ≡ []
 
-pub found : {A : Type 0} {P Q : A → Type 0} → (xs : List A) (n : ℕ) → AllByRecursion P xs → MatchOption (slice_get xs n) ⊥ Q → (x : A) × P x × Q x
-found [] n all h = absurd h
-found (x ∷ xs) zero all h = (x, all.0, h)
-found (x ∷ xs) (suc n) all h = found xs n all.1 h
-
 is_closed : (root : Root) → IsRootOf None root → root ≡ Closed
 is_closed Closed h = refl
 is_closed (Empty c) h = absurd h
@@ -53,7 +41,7 @@ is_closed (Whole c) h = absurd h
 pub closed_form : (th : Theory) (r : Rule) → IsPlainSignature th.sig → AllByRecursion (JudgmentFits th.sig) th.judgments → HasForms th r
     → IsClosedForm r.conclusion.context
 closed_form th r plain fit forms =
-    let form = found th.judgments r.conclusion.judgment fit forms.conclusion in
+    let form = all_found th.judgments r.conclusion.judgment fit forms.conclusion in
     let none : form.0.ctx ≡ None = no_context_assumed th.sig (λ c. count_by (λ slot. slot.cat == c.0) (slots form.0.items) ≡ 1) form.0.ctx plain form.1.assumed in
     let root : r.conclusion.context.root ≡ Closed =
     is_closed r.conclusion.context.root (subst (λ (ctx : Option CatId). IsRootOf ctx r.conclusion.context.root) none form.2.0) in
@@ -125,10 +113,10 @@ IsPlainSystem-with_rule th r system fits plain =
       so_far = record {
         sig = system.so_far.sig;
         judgments = system.so_far.judgments;
-        rules = AllByRecursion-append (RuleFits (with_rule th r)) th.rules r (AllByRecursion-map (fits_with th r) th.rules system.so_far.rules) (fits_with th r r fits);
+        rules = all_push (RuleFits (with_rule th r)) th.rules r (all_weaker (fits_with th r) th.rules system.so_far.rules) (fits_with th r r fits);
         one_assumption = subst AreDifferent (sym (assumed_with th.rules r (closed_assumes_nothing r closed))) system.so_far.one_assumption;
       };
-      plain = record { sig = system.plain.sig; rules = AllByRecursion-append HasPlainNames th.rules r system.plain.rules plain };
+      plain = record { sig = system.plain.sig; rules = all_push HasPlainNames th.rules r system.plain.rules plain };
     }
 
 -- a system without contexts is whole
@@ -136,7 +124,7 @@ pub IsPlainSystem-whole : (th : Theory) → IsPlainSystem th → IsSystem th
 IsPlainSystem-whole th system =
     record {
       so_far = system.so_far;
-      closed_ok = AllByRecursion-map
+      closed_ok = all_weaker
           (λ r fits. closed_placed th r.conclusion.context.root r.premises (closed_form th r system.plain.sig system.so_far.judgments fits.forms).root)
           th.rules system.so_far.rules;
     }

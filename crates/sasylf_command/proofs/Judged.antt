@@ -19,16 +19,11 @@ use Rattle.derivation_text.specs.Text.{derivations_text}
 use Rattle.theorem_runner.specs.Instances.{no_context_value, IsDerived}
 use Rattle.theorem_runner.specs.Runs.{IsRun}
 use Rattle.sasylf_command.specs.Judging.{MakesText, IsAcceptedFor, IsKeptFor, HasRun, IsValueText, Run, IsRunOf, IsTextOn, IsTextFor}
+use Rattle.binding_terms.proofs.Lists.{all_at}
 
 -- where nothing is kept there is no run
 pub no_run : (source theorem lines : List ℕ) → IsOnlyFile (IsRightSoFar source) None → HasRun source theorem lines → ⊥
 no_run source theorem lines never stands = never _ _ _ stands.is_run.right
-
--- a fact of all elements is one of the element at a place
-pub all_at : {A : Type 0} (P : A → Type 0) (xs : List A) (k : ℕ) (x : A) → AllByRecursion P xs → slice_get xs k ≡ Some x → P x
-all_at P [] k x h at = cc
-all_at P (y ∷ xs) zero x h at = let same : y ≡ x = cc in subst P same h.0
-all_at P (y ∷ xs) (suc k) x h at = all_at P xs k x h.1 at
 
 -- trees that derive are derived inputs
 pub derived_all : (th : Theory) (trees : List Derivation) → AllByRecursion (Derives th) trees → AllByRecursion (IsDerived th) (map derived trees)

@@ -11,11 +11,11 @@ use Rattle.scheme_terms.specs.SchemeTree.{SchemeTree, meta, known, local, con, V
 use Rattle.scheme_terms.specs.Forms.{Substitution}
 use Rattle.scheme_terms.specs.Substituting.{scheme_for, known_for, argument_or_local, applied, applied_values, applied_parts, composed, LocalsBelow, ValuesBelow, PartsBelow, Suits, SuitsValues, SuitsParts}
 use Rattle.scheme_terms.specs.Laws.{AppliedAnywhere, AppliedTwice, AppliedRaised}
-use Rattle.scheme_terms.proofs.Options.{match_some}
 use Rattle.scheme_terms.proofs.Arguments.{argument_at, argument_past, argument_mapped}
 use Rattle.scheme_terms.proofs.AppliedInstances.{length_applied, value_below}
 use Rattle.scheme_terms.proofs.SchemeFilling.{under_at, under_past}
 use Rattle.scheme_terms.proofs.SchemeSubstitutions.{shifted_filled, filled_filled, filled_agree}
+use Rattle.binding_terms.proofs.Lists.{match_some}
 
 module _ (ss : List SchemeTree) (ks : List ℕ) where
   -- the locals around a scheme do not count

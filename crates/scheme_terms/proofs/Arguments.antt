@@ -5,6 +5,7 @@ use Rattle.std.proofs.lemmas.Bool.Decides.{nat_tests}
 use Rattle.std.proofs.lemmas.List.{length-map, length-reverse}
 use Rattle.std.proofs.lemmas.Option.{slice_get-map, slice_get-get_or}
 use mathlib.Core.List.{reverse_aux}
+use Rattle.binding_terms.proofs.Lists.{in_reverse, reverse_map, unwrap_mapped}
 
 -- the i-th argument from the end, and beyond the arguments what stands outside
 abbrev pub argument_or : {A : Type 0} → (default : A) → (outside : ℕ → A) → List A → ℕ → A
@@ -19,27 +20,12 @@ pub argument_past : {A : Type 0} (default : A) (outside : ℕ → A) (args : Lis
     argument_or default outside args i ≡ outside (i - length args)
 argument_past default outside args i h = grind (arith, nat_tests)
 
-turned : {A B : Type 0} (f : A → B) (xs ys : List A) → reverse_aux (map f xs) (map f ys) ≡ map f (reverse_aux xs ys)
-turned f [] ys = refl
-turned f (x ∷ xs) ys = turned f xs (x ∷ ys)
-
-pub reverse_map : {A B : Type 0} (f : A → B) (xs : List A) → reverse (map f xs) ≡ map f (reverse xs)
-reverse_map f xs = turned f xs []
-
-some_mapped : {A B : Type 0} (f : A → B) (x : A) (y : B) (o : Option A) (a : A) → o ≡ Some a →
-    f (unwrap_or o x) ≡ unwrap_or (option_map f o) y
-some_mapped f x y o a e = rw e refl
-
-pub in_reverse : {A : Type 0} (default : A) (args : List A) (i : ℕ) → i < length args → (a : A) × (slice_get (reverse args) i ≡ Some a)
-in_reverse default args i h =
-    (get_or (reverse args) i default, slice_get-get_or (reverse args) i default (rw length-reverse h))
-
 -- a function goes through
 mapped_at : {A B : Type 0} (f : A → B) (x : A) (y : B) (outer : ℕ → A) (inner : ℕ → B) (args : List A) →
     ((j : ℕ) → f (outer j) ≡ inner j) → (i : ℕ) → (i < length args) ⊎ (length args ≤ i) → f (argument_or x outer args i) ≡ argument_or y inner (map f args) i
 mapped_at f x y outer inner args outside i (inl h) =
     let found = in_reverse x args i h in
-    ap f (argument_at x outer args i h) ∙ some_mapped f x y (slice_get (reverse args) i) found.0 found.1
+    ap f (argument_at x outer args i h) ∙ unwrap_mapped f x y (slice_get (reverse args) i) found.0 found.1
     ∙ ap (λ o. unwrap_or o y) (sym (slice_get-map f (reverse args) i) ∙ ap (λ ts. slice_get ts i) (sym (reverse_map f args)))
     ∙ sym (argument_at y inner (map f args) i (rw length-map h))
 mapped_at f x y outer inner args outside i (inr h) =

@@ -13,20 +13,17 @@ use Rattle.scheme_terms.specs.Laws.{AppliedTwiceInScope, ComposedIsSubstitution,
 use Rattle.scheme_terms.specs.declared.scheme.MetaDecl.{MetaDecl}
 use Rattle.scheme_terms.specs.declared.scheme.Root.{Root}
 use Rattle.scheme_terms.specs.declared.scheme.Root.TheVariants.{Closed, Empty, Whole}
-use Rattle.scheme_terms.proofs.Options.{match_some, match_from, zip_at}
+use Rattle.scheme_terms.proofs.Options.{zip_at}
 use Rattle.scheme_terms.proofs.SchemeFacts.{length_params, scheme_suits}
 use Rattle.scheme_terms.proofs.Followed.{instance_of_applied_scheme}
 use Rattle.scheme_terms.proofs.RaisedInstances.{instance_shifted}
 use Rattle.scheme_terms.proofs.InstanceScopes.{instance_keeps_scope, place_some}
 use Rattle.scheme_terms.proofs.SchemeScopes.{applied_scheme}
 use Rattle.scheme_terms.proofs.AppliedSchemes.{applied_anywhere, applied_twice}
+use Rattle.binding_terms.proofs.Lists.{each_map, match_from, match_some}
 
 pub instance_raised : InstanceRaised
 instance_raised inst cut d n s h = instance_shifted inst cut d n h s
-
-each_map : {A B C : Type 0} (f : A → B) (g : B → C) (xs : List A) → map g (map f xs) ≡ map (λ x. g (f x)) xs
-each_map f g [] = refl
-each_map f g (x ∷ xs) = ap (λ ys. g (f x) ∷ ys) (each_map f g xs)
 
 abbrev pub entry_with : ℕ → List SchemeTree → SchemeEntry
 entry_with p ss = record { prod = p; args = ss }

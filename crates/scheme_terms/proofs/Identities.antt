@@ -10,10 +10,10 @@ use Rattle.scheme_terms.specs.SchemeScope.{IsScheme, AreValues, IsKnownEntry, Kn
 use Rattle.scheme_terms.specs.Substituting.{scheme_for, known_for, params, argument_or_local, applied, applied_values, applied_parts, parameters, metas_from, knowns_from, identity, IsSaturated, AreSaturated, PartsAreSaturated, IsKnownValue, applied_entry}
 use Rattle.scheme_terms.specs.Laws.{IdentityChangesNothing, IdentityKeepsSchemes, IdentityIsSubstitution}
 use Rattle.scheme_terms.specs.declared.scheme.MetaDecl.{MetaDecl}
-use Rattle.scheme_terms.proofs.Options.{match_some, match_from}
 use Rattle.scheme_terms.proofs.Arguments.{argument_at}
 use Rattle.scheme_terms.proofs.SchemeFacts.{scheme_saturated}
 use Rattle.scheme_terms.proofs.Compositions.{same_arguments, entry_with}
+use Rattle.binding_terms.proofs.Lists.{match_from, match_some}
 
 -- the parameters with schemes put in for them, from the outermost
 read_back : (f : ℕ → SchemeTree) (args : List SchemeTree) → ((i : ℕ) → i < length args → f (length args - 1 - i) ≡ get_or args i (local 0)) →

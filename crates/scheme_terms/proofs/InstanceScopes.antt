@@ -9,7 +9,6 @@ use Rattle.binding_terms.specs.Tree.{Tree, var}
 use Rattle.binding_terms.specs.Substitution as filling
 use Rattle.binding_terms.specs.Signature.{Signature, Place, slots, binders, Fits}
 use Rattle.binding_terms.specs.Scope.{bound, IsTerm, AreParts, Fills}
-use Rattle.binding_terms.proofs.Frames.{append_within, append_beyond}
 use Rattle.scheme_terms.specs.SchemeTree.{SchemeTree, meta, known, local, con, Values, no_values, value, Parts, no_parts, part}
 use Rattle.scheme_terms.specs.Forms.{Names, Instance, KnownVariable}
 use Rattle.scheme_terms.specs.Context.{scope_of, variables}
@@ -17,11 +16,12 @@ use Rattle.scheme_terms.specs.Instance.{instance_of, instances_of, parts_instanc
 use Rattle.scheme_terms.specs.SchemeScope.{IsScheme, AreValues, AreSchemeParts, IsRoot, params_scope}
 use Rattle.scheme_terms.specs.Laws.{InstanceKeepsScope, InstanceKeepsScopeOfMetas}
 use Rattle.scheme_terms.specs.declared.scheme.MetaDecl.{MetaDecl}
-use Rattle.scheme_terms.proofs.Options.{match_some, match_from, zip_at, zip_reverse}
+use Rattle.scheme_terms.proofs.Options.{zip_at}
 use Rattle.scheme_terms.proofs.Arguments.{argument_at, argument_past}
 use Rattle.scheme_terms.proofs.SchemeFacts.{length_bound}
 use Rattle.binding_terms.proofs.Scopes.{IsTerm-filled}
 use Rattle.scheme_terms.proofs.Values.{value_adds_one, entry_variable}
+use Rattle.binding_terms.proofs.Lists.{append_beyond, append_within, match_from, match_some, zip_reverse}
 
 some_value : (P : Tree → Type 0) (o : Option Tree) → MatchOption o ⊥ P → P (unwrap_or o (var 0))
 some_value P None h = absurd h

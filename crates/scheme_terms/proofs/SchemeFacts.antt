@@ -10,7 +10,8 @@ use Rattle.scheme_terms.specs.Forms.{Names, Substitution}
 use Rattle.scheme_terms.specs.SchemeScope.{IsScheme, AreValues, AreSchemeParts, params_scope}
 use Rattle.scheme_terms.specs.Substituting.{params, LocalsBelow, ValuesBelow, PartsBelow, Suits, SuitsValues, SuitsParts, IsSaturated, AreSaturated, PartsAreSaturated, IsSubstitution}
 use Rattle.scheme_terms.specs.declared.scheme.MetaDecl.{MetaDecl}
-use Rattle.scheme_terms.proofs.Options.{match_some, match_from, zip_at}
+use Rattle.scheme_terms.proofs.Options.{zip_at}
+use Rattle.binding_terms.proofs.Lists.{match_from, match_some}
 
 pub length_bound : (bs binds : List ℕ) → length (bound bs binds) ≡ length binds
 length_bound bs binds = length-reverse (map (slice_index bs) binds) ∙ length-map binds (slice_index bs)

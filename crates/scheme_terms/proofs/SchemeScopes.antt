@@ -8,7 +8,6 @@ use Rattle.std.proofs.lemmas.Slice.Zip.{AllZip-long}
 use Rattle.binding_terms.specs.Tree.{var}
 use Rattle.binding_terms.specs.Signature.{Signature, Place, slots, binders}
 use Rattle.binding_terms.specs.Scope.{bound}
-use Rattle.binding_terms.proofs.Frames.{append_within, append_beyond}
 use Rattle.binding_terms.proofs.Scopes.{IsTerm-shift}
 use Rattle.scheme_terms.specs.SchemeTree.{SchemeTree, meta, known, local, con, Values, no_values, value, Parts, no_parts, part, shifted, shifted_values, shifted_parts, under, filled, filled_values, filled_parts}
 use Rattle.scheme_terms.specs.Forms.{Names, Substitution}
@@ -17,10 +16,11 @@ use Rattle.scheme_terms.specs.SchemeScope.{IsScheme, AreValues, AreSchemeParts, 
 use Rattle.scheme_terms.specs.Substituting.{known_for, argument_or_local, applied, applied_values, applied_parts, IsSubstitution, IsKnownValue, applied_entry}
 use Rattle.scheme_terms.specs.Laws.{ShiftKeepsScheme, ApplyKeepsScope}
 use Rattle.scheme_terms.specs.declared.scheme.MetaDecl.{MetaDecl}
-use Rattle.scheme_terms.proofs.Options.{match_some, match_from, zip_at, zip_reverse}
+use Rattle.scheme_terms.proofs.Options.{zip_at}
 use Rattle.scheme_terms.proofs.Arguments.{argument_at}
 use Rattle.scheme_terms.proofs.SchemeFacts.{length_bound}
 use Rattle.scheme_terms.proofs.SchemeFilling.{under_at, under_past}
+use Rattle.binding_terms.proofs.Lists.{append_beyond, append_within, match_from, match_some, zip_reverse}
 
 module _ (sig : Signature) (names : Names) (new outer : List ℕ) where
   mutual

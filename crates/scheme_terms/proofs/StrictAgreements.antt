@@ -19,8 +19,9 @@ use Rattle.scheme_terms.specs.Substituting.{LocalsBelow, ValuesBelow, PartsBelow
 use Rattle.scheme_terms.specs.Laws.{StrictAgreement, StrictAgreementInScope}
 use Rattle.scheme_terms.specs.SchemeScope.{IsScheme, AreValues, AreSchemeParts}
 use Rattle.scheme_terms.specs.declared.scheme.MetaDecl.{MetaDecl}
-use Rattle.scheme_terms.proofs.Options.{match_some, zip_at}
+use Rattle.scheme_terms.proofs.Options.{zip_at}
 use Rattle.scheme_terms.proofs.SchemeFacts.{scheme_below}
+use Rattle.binding_terms.proofs.Lists.{match_some}
 
 -- no two variables go to the same one
 abbrev pub IsInjective : (ℕ → ℕ) → Type 0

@@ -4,7 +4,6 @@ use Rattle.std.specs.Prelude.{MatchBool}
 use Rattle.std.specs.List.{AllByRecursion, list_all}
 use Rattle.std.proofs.lemmas.List.{length-reverse}
 use Rattle.binding_terms.specs.Signature.{Signature, slots, binders, Fits, ProdFits, IsContext, IsContextForm, Extends, is_word, IsPlain}
-use Rattle.binding_terms.proofs.Frames.{append_beyond}
 use Rattle.scheme_terms.specs.Forms.{GroundEntry, ContextValue}
 use Rattle.scheme_terms.specs.Context.{variables, IsEntry, scope_after, AreEntries, IsValue}
 use Rattle.scheme_terms.specs.SchemeScope.{IsRoot}
@@ -14,7 +13,7 @@ use Rattle.binding_terms.specs.declared.grammar.Item.{Item}
 use Rattle.binding_terms.specs.declared.grammar.Item.TheVariants.{Word, Slot, Binder}
 use Rattle.binding_terms.specs.declared.grammar.Prod.{Prod}
 use Rattle.binding_terms.specs.declared.grammar.Cat.{Cat}
-use Rattle.scheme_terms.proofs.Options.{match_some}
+use Rattle.binding_terms.proofs.Lists.{all_at, append_beyond, match_some}
 
 -- each entry adds one variable
 abbrev pub AddOne : Signature → List GroundEntry → Type 0
@@ -67,11 +66,6 @@ context_form : (sig : Signature) (p : Prod) (o : Option Cat) → MatchOption o �
     → MatchOption o ⊥ (λ cat. MatchBool cat.context (IsContextForm sig p) (AllByRecursion (λ s. IsPlain sig s.cat) (slots p.items))) → IsContextForm sig p
 context_form sig p None h k = absurd h
 context_form sig p (Some cat) h k = subst (λ b. MatchBool b (IsContextForm sig p) (AllByRecursion (λ s. IsPlain sig s.cat) (slots p.items))) h k
-
-all_at : {A : Type 0} (P : A → Type 0) (xs : List A) (k : ℕ) (a : A) → AllByRecursion P xs → slice_get xs k ≡ Some a → P a
-all_at P [] k a h e = absurd (let no : ⊥ = cc in no)
-all_at P (x ∷ xs) zero a h e = subst P (let same : x ≡ a = cc in same) h.0
-all_at P (x ∷ xs) (suc k) a h e = all_at P xs k a h.1 e
 
 entry_adds_one : (sig : Signature) → Fits sig → (c : ℕ) → IsContext sig c → (scope : List ℕ) (e : GroundEntry) → IsEntry sig c scope e → length (variables sig e.prod) ≡ 1
 entry_adds_one sig fits c context scope e h =

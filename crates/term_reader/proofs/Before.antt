@@ -6,9 +6,7 @@ use Rattle.term_reader.specs.PlaceView.{ways_of, place_level, place, places}
 use Rattle.term_reader.specs.declared.places.Place.{Place}
 use Rattle.term_reader.specs.declared.places.Place.TheFolds.{fold_out-Place}
 use Rattle.term_reader.specs.declared.places.Place.TheViews.{out-Place}
-
-from_place : {X : Type 0} (xs : List X) (i : ℕ) (x : X) → i < length xs → x ≡ get_or xs i x → drop i xs ≡ x ∷ drop (i + 1) xs
-from_place xs i x h e = drop_more xs i x h ∙ ap (λ y. y ∷ drop (i + 1) xs) (sym e)
+use Rattle.binding_terms.proofs.Lists.{drop_from}
 
 pub comes_irreflexive : (ns : List ℕ) → ComesBefore ns ns → ⊥
 comes_irreflexive [] h = h
@@ -44,7 +42,7 @@ none_before (then_way w ws) h = h
 
 module _ (xs ys : List Place) (i : ℕ) where
   from_way : (zs : List Place) (z : Place) → i < length zs → z ≡ get_or zs i z → places (drop i zs) ≡ then_way (place z) (places (drop (i + 1) zs))
-  from_way zs z h e = ap places (from_place zs i z h e)
+  from_way zs z h e = ap places (drop_from zs i z h e)
 
   -- where the places there are the same, the next ones tell
   pub ways_more : (x y : Place) → i < length xs → i < length ys → x ≡ get_or xs i x → y ≡ get_or ys i y → place x ≡ place y

@@ -16,19 +16,7 @@ use Rattle.term_reader.specs.Chart.{IsAmong, MayBeVariable, AreAllowed}
 use Rattle.term_reader.specs.Charting.{Charted, CannotRead, CannotGroup, CannotName, CannotVary, CannotTake, CannotProduce}
 use Rattle.term_reader.specs.View.{scope_words}
 use Rattle.term_reader.proofs.ChartRanges.{range_long, range_parts, range_front, range_last}
-
-pub all_both : {X : Type 0} (P : X → Type 0) (xs ys : List X) → AllByRecursion P xs → AllByRecursion P ys → AllByRecursion P (xs ++ ys)
-all_both P [] ys h k = k
-all_both P (x ∷ xs) ys h k = (h.0, all_both P xs ys h.1 k)
-
-pub any_at : {X : Type 0} (P : X → Type 0) (xs : List X) (n : ℕ) (x : X) → slice_get xs n ≡ Some x → P x → AnyByRecursion P xs
-any_at P [] n x e p = absurd (cc)
-any_at P (y ∷ xs) zero x e p = let same : y ≡ x = cc in inl (subst P (sym same) p)
-any_at P (y ∷ xs) (suc n) x e p = inr (any_at P xs n x e p)
-
-all_reverse : {X : Type 0} (P : X → Type 0) (xs : List X) → AllByRecursion P xs → AllByRecursion P (reverse xs)
-all_reverse P [] h = h
-all_reverse P (x ∷ xs) h = subst (AllByRecursion P) (sym (reverse-append (x ∷ []) xs)) (all_both P (reverse xs) (x ∷ []) (all_reverse P xs h.1) (h.0, tt))
+use Rattle.binding_terms.proofs.Lists.{all_append, all_reverse}
 
 -- the words of a scope's variables are allowed where they stand among the others
 pub scope_allowed : (sig : Signature) (base : List (Text × CatId)) → AreAllowed sig base (scope_words base)
@@ -45,7 +33,7 @@ module _ (sig : Signature) (base : List (Text × CatId)) where
   pub slot_allowed : (vs : List Variable) (ns : List ℕ) → AreAllowed sig base vs → AreAllowed sig base (slot_variables vs ns)
   slot_allowed vs [] h = tt
   slot_allowed vs (n ∷ ns) h =
-      all_both (λ (v : Variable). MayBeVariable sig base v.cat v.word) (slot_variables vs ns) (variable_at (slice_get vs n)) (slot_allowed vs ns h) (one vs n h)
+      all_append (λ (v : Variable). MayBeVariable sig base v.cat v.word) (slot_variables vs ns) (variable_at (slice_get vs n)) (slot_allowed vs ns h) (one vs n h)
     where
       one : (vs : List Variable) (n : ℕ) → AreAllowed sig base vs → AreAllowed sig base (variable_at (slice_get vs n))
       one [] n h = tt
@@ -54,7 +42,7 @@ module _ (sig : Signature) (base : List (Text × CatId)) where
 
   -- a slot's variables stand before those of the production
   pub under_allowed : (own vars : List Variable) (ns : List ℕ) → AreAllowed sig base own → AreAllowed sig base vars → AreAllowed sig base (slot_variables own ns ++ vars)
-  under_allowed own vars ns h k = all_both (λ (v : Variable). MayBeVariable sig base v.cat v.word) (slot_variables own ns) vars (slot_allowed own ns h) k
+  under_allowed own vars ns h k = all_append (λ (v : Variable). MayBeVariable sig base v.cat v.word) (slot_variables own ns) vars (slot_allowed own ns h) k
 
   -- the binders of a production that reads are spelled as variables of their categories
   pub binders_allowed : {metas : List MetaDecl} {vars own : List Variable} {words : List (List ℕ)} {items : List Item} {tokens : List Token} {xs : Parts}

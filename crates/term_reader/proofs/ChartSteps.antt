@@ -15,8 +15,9 @@ use Rattle.rule_schemes.specs.Reading.{Token, word, punctuation, IsTerminal, IsV
 use Rattle.term_reader.specs.Chart.{MayBeVariable, IsClosed}
 use Rattle.term_reader.specs.Charting.{Charted, CannotRead, CannotGroup, CannotName, CannotVary, CannotStand, CannotTake, CannotProduce, CannotGoOn, IsKnown, AreTailsKnown}
 use Rattle.term_reader.specs.declared.chart.Boxes.{Boxes}
-use Rattle.term_reader.proofs.ChartLemmas.{any_at, no_case, name_read, term_takes, some_item, no_item, no_slot}
+use Rattle.term_reader.proofs.ChartLemmas.{no_case, name_read, term_takes, some_item, no_item, no_slot}
 use Rattle.term_reader.proofs.ChartRanges.{range_long, range_front, range_inner}
+use Rattle.binding_terms.proofs.Lists.{any_at}
 
 module _ (f : Charted) where
   -- no metavariable: another token at the front, or no brackets behind it

@@ -12,6 +12,7 @@ use Rattle.rule_schemes.specs.Said.{Way, way, Ways, no_ways, then_way, ComesBefo
 use Rattle.term_reader.specs.Names.{NamesApart}
 use Rattle.term_reader.specs.Ordered.{ReadsTermAt}
 use Rattle.term_reader.specs.Splitting.{SlotRange, ReadsPieces}
+use Rattle.binding_terms.proofs.Lists.{same_fronts}
 
 -- one of two places stands before the other, or they are the same
 abbrev pub Compared : {K : Type 0} → (K → K → Type 0) → K → K → Type 0
@@ -63,13 +64,6 @@ length_tells m n w v ls ks ws vs h = go (cases_order m n)
 
 no_slots : SlotsCompared [] no_ways [] no_ways
 no_slots = inr (inr (refl, inr (inl refl)))
-
--- lists that begin with parts of one length
-same_parts : {X : Type 0} (xs ys us vs : List X) → xs ++ us ≡ ys ++ vs → length xs ≡ length ys → (xs ≡ ys) × (us ≡ vs)
-same_parts xs ys us vs e h = (
-  sym (take_at xs us (length xs) refl) ∙ ap (take (length xs)) e ∙ take_at ys vs (length xs) (sym h),
-  sym (drop_at xs us (length xs) refl) ∙ ap (drop (length xs)) e ∙ drop_at ys vs (length xs) (sym h),
-)
 
 comma_is_no_bracket : (us vs : List Token) → punctuation 44 ∷ us ≡ punctuation 93 ∷ vs → ⊥
 comma_is_no_bracket us vs e =
@@ -130,19 +124,19 @@ module _ {sig : Signature} {metas : List MetaDecl} where
         → SlotsCompared (argument_lengths r) (ways_of_arguments r) (argument_lengths q) (ways_of_arguments q)
     arguments_compare (one_more {first = first} {rest = rest} f t r) (one_more {first = begins} {rest = other} g u q) e =
         length_tells (length first) (length begins) (way_of_term t) (way_of_term u) (argument_lengths r) (argument_lengths q) (ways_of_arguments r) (ways_of_arguments q)
-        (λ h. (let same = same_parts first begins (punctuation 44 ∷ rest) (punctuation 44 ∷ other) (sym f ∙ e ∙ g) h in
+        (λ h. (let same = same_fronts first begins (punctuation 44 ∷ rest) (punctuation 44 ∷ other) (sym f ∙ e ∙ g) h in
         let after : punctuation 44 ∷ rest ≡ punctuation 44 ∷ other = same.1 in
         let others : rest ≡ other = cc in
         (terms_compare t u same.0, arguments_compare r q others)))
     arguments_compare (one_more {first = first} {rest = rest} f t r) (last_one {first = begins} {rest = other} g u q) e =
         length_tells (length first) (length begins) (way_of_term t) (way_of_term u) (argument_lengths r) (bracket_lengths q) (ways_of_arguments r) (ways_of_brackets q)
-        (λ h. absurd (comma_is_no_bracket rest other (same_parts first begins (punctuation 44 ∷ rest) (punctuation 93 ∷ other) (sym f ∙ e ∙ g) h).1))
+        (λ h. absurd (comma_is_no_bracket rest other (same_fronts first begins (punctuation 44 ∷ rest) (punctuation 93 ∷ other) (sym f ∙ e ∙ g) h).1))
     arguments_compare (last_one {first = first} {rest = rest} f t r) (one_more {first = begins} {rest = other} g u q) e =
         length_tells (length first) (length begins) (way_of_term t) (way_of_term u) (bracket_lengths r) (argument_lengths q) (ways_of_brackets r) (ways_of_arguments q)
-        (λ h. absurd (comma_is_no_bracket other rest (sym (same_parts first begins (punctuation 93 ∷ rest) (punctuation 44 ∷ other) (sym f ∙ e ∙ g) h).1)))
+        (λ h. absurd (comma_is_no_bracket other rest (sym (same_fronts first begins (punctuation 93 ∷ rest) (punctuation 44 ∷ other) (sym f ∙ e ∙ g) h).1)))
     arguments_compare (last_one {first = first} {rest = rest} f t r) (last_one {first = begins} {rest = other} g u q) e =
         length_tells (length first) (length begins) (way_of_term t) (way_of_term u) (bracket_lengths r) (bracket_lengths q) (ways_of_brackets r) (ways_of_brackets q)
-        (λ h. (let same = same_parts first begins (punctuation 93 ∷ rest) (punctuation 93 ∷ other) (sym f ∙ e ∙ g) h in
+        (λ h. (let same = same_fronts first begins (punctuation 93 ∷ rest) (punctuation 93 ∷ other) (sym f ∙ e ∙ g) h in
         let after : punctuation 93 ∷ rest ≡ punctuation 93 ∷ other = same.1 in
         let others : rest ≡ other = cc in
         (terms_compare t u same.0, brackets_compare r q others)))
@@ -174,7 +168,7 @@ module _ {sig : Signature} {metas : List MetaDecl} where
     items_compare (slot {items = is} {first = first} {rest = rest} f k t r) (slot {items = js} {first = begins} {rest = other} g h u q) d e =
         let items_same : is ≡ js = cc in
         length_tells (length first) (length begins) (way_of_term t) (way_of_term u) (item_lengths r) (item_lengths q) (ways_of_items r) (ways_of_items q)
-        (λ l. (let same = same_parts first begins rest other (sym f ∙ e ∙ g) l in (terms_compare t u same.0, items_compare r q items_same same.1)))
+        (λ l. (let same = same_fronts first begins rest other (sym f ∙ e ∙ g) l in (terms_compare t u same.0, items_compare r q items_same same.1)))
 
 -- the readings of one range stand at places of which one is before the other, or which are the same
 pub places_at_compare : {sig : Signature} {metas : List MetaDecl} {vars us : List Variable} {c d : ℕ} {ts : List Token} {w v : Way} {s t : SchemeTree}

@@ -18,16 +18,15 @@ use Rattle.term_reader.specs.declared.splitting.Split.{Split}
 use Rattle.term_reader.specs.declared.reading.Head.TheVariants.{Product, Meta}
 use Rattle.term_reader.proofs.Pieces.{numbers}
 use Rattle.term_reader.proofs.Ranges.{range_cons}
-use Rattle.term_reader.proofs.SplitLemmas.{all_of, cons_cases}
 use Rattle.term_reader.proofs.TermCases.{made_in_splits, made_in_brackets}
 use Rattle.term_reader.proofs.TermEnds.{seen}
-use Rattle.term_reader.proofs.Usable.{mapped_around}
 use Rattle.term_reader.specs.PlaceCases.{IsInSplit, IsInSplits, BindAsMany}
 use Rattle.term_reader.specs.FirstPlace.{IsFirstPlace}
 use Rattle.term_reader.specs.PlaceView.{place}
 use Rattle.term_reader.specs.declared.places.Place.{Place}
 use Rattle.term_reader.proofs.Bound.{bound_read, same_bound}
 use Rattle.term_reader.proofs.FirstPlaces.{first_same}
+use Rattle.binding_terms.proofs.Lists.{all_contained, cons_cases, mapped_around}
 
 order_after : (front rest : List Divided) → AreInOrder (front ++ rest) → AreInOrder rest
 order_after [] rest h = h
@@ -68,7 +67,7 @@ module _ (sheet : Sheet) (vars : List Variable) (alternative : ℕ) (wanted : Li
 
       shorter : (l : Way) (x : Parts) (k : Among (front ++ (d ∷ rest)) l x) → Contains rest k.0 → IsBefore (place found) l
       shorter l x k c =
-          let lengths_before : ComesBefore (lengths d.1) (lengths k.0.1) = all_of (λ (e : Divided). ComesBefore (lengths d.1) (lengths e.1)) rest k.0 after.0 c in
+          let lengths_before : ComesBefore (lengths d.1) (lengths k.0.1) = all_contained (λ (e : Divided). ComesBefore (lengths d.1) (lengths e.1)) rest k.0 after.0 c in
           let here = h.1.0 in
           let there = k.2 in
           subst (λ w. IsBefore w l) (sym here.1) (subst (IsBefore (way alternative (lengths d.1) here.0)) (sym there.1) (inr (refl, inl lengths_before)))

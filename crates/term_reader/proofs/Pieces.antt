@@ -14,7 +14,8 @@ use Rattle.term_reader.specs.Ordered.{ReadsTermAt, ReadsBracketsAt, ReadsItemsAt
 use Rattle.term_reader.specs.Splitting.{SlotRange, IsHead, IsSplit, GoesOn, AreArguments, IsBracketed, IsSheet, AreKnown, Stands, tokens_of, AreWithin, longest, lengths, ReadsPieces}
 use Rattle.term_reader.specs.declared.sheet.Sheet.{Sheet}
 use Rattle.term_reader.proofs.Ranges.{range_length, range_cons, range_end, range_none, range_begins, range_two, range_front, range_some}
-use Rattle.term_reader.proofs.SplitLemmas.{range_of, all_both}
+use Rattle.term_reader.proofs.SplitLemmas.{range_of}
+use Rattle.binding_terms.proofs.Lists.{all_append}
 
 some_token : (ts : List Token) → ts ≢ [] → 0 < length ts
 some_token [] e = absurd (e refl)
@@ -41,7 +42,7 @@ module _ (sheet : Sheet) where
   pub known_slot : (own : List Variable) (ns : List ℕ) → AreKnown sheet own → AreKnown sheet (slot_variables own ns)
   known_slot own [] k = tt
   known_slot own (n ∷ ns) k =
-      all_both (λ (v : Variable). MayBeVariable sig sheet.words.now v.cat v.word) (slot_variables own ns) (variable_at (slice_get own n)) (known_slot own ns k) (one own n k)
+      all_append (λ (v : Variable). MayBeVariable sig sheet.words.now v.cat v.word) (slot_variables own ns) (variable_at (slice_get own n)) (known_slot own ns k) (one own n k)
     where
       one : (own : List Variable) (n : ℕ) → AreKnown sheet own → AreKnown sheet (variable_at (slice_get own n))
       one [] n k = tt
@@ -49,7 +50,7 @@ module _ (sheet : Sheet) where
       one (v ∷ own) (suc n) k = one own n k.1
 
   pub known_scope : (vars own : List Variable) (ns : List ℕ) → AreKnown sheet vars → AreKnown sheet own → AreKnown sheet (slot_variables own ns ++ vars)
-  known_scope vars own ns k o = all_both (λ (v : Variable). MayBeVariable sig sheet.words.now v.cat v.word) (slot_variables own ns) vars (known_slot own ns o) k
+  known_scope vars own ns k o = all_append (λ (v : Variable). MayBeVariable sig sheet.words.now v.cat v.word) (slot_variables own ns) vars (known_slot own ns o) k
 
   -- the variables that binders write are known
   pub known_own : {vars own : List Variable} {words : List (List ℕ)} {items : List Item} {tokens : List Token} {xs : Parts}

@@ -12,10 +12,10 @@ use Rattle.term_reader.specs.Firsts.{IsLeast}
 use Rattle.term_reader.specs.Splitting.{SlotRange, slot_range, ReadsPieces}
 use Rattle.term_reader.specs.declared.splitting.Piece.{Piece}
 use Rattle.term_reader.proofs.TermCases.{ways_last}
-use Rattle.term_reader.proofs.Usable.{mapped_around}
 use Rattle.term_reader.specs.FirstPlace.{IsFirstPlace, ReadsAs, ReadPiecesAs}
 use Rattle.term_reader.specs.PlaceView.{ways_of, place, places}
 use Rattle.term_reader.specs.declared.places.Place.{Place}
+use Rattle.binding_terms.proofs.Lists.{mapped_around}
 
 ways_push : (ws : List Way) (w : Way) → ways_of (ws ++ w ∷ []) ≡ ways_last (ways_of ws) w
 ways_push [] w = refl

@@ -15,60 +15,18 @@ use Rattle.binding_terms.specs.declared.grammar.CatId.{CatId}
 use Rattle.rule_schemes.specs.Reading.{Token, word, Variable, IsTerminal, IsVariableWord}
 use Rattle.rule_schemes.specs.Said.{ComesBefore}
 use Rattle.term_reader.specs.Splitting.{SlotRange, Divided, after, bound_variable, IsHead, IsSplit, AreSplits, AreInOrder, lengths}
+use Rattle.binding_terms.proofs.Lists.{all_also, all_append, all_contained, all_from, all_mapped, cons_cases, contains_map}
 
 -- a slot from one place up to another
 abbrev pub range_of : CatId → List ℕ → ℕ → ℕ → SlotRange
 range_of c binds n k = record { cat = c; binds = binds; from = n; to = k }
-
-pub contains_map : {X Y : Type 0} (f : X → Y) (xs : List X) (y : Y) → Contains (map f xs) y ↔ ((x : X) × (y ≡ f x) × Contains xs x)
-contains_map {X} {Y} f xs y = (there xs, back)
-  where
-    there : (xs : List X) → Contains (map f xs) y → (x : X) × (y ≡ f x) × Contains xs x
-    there [] h = absurd (omega (arith, h.1))
-    there (x ∷ xs) h =
-        let lt : h.0 < length (x ∷ xs) = omega (arith, h.1, length-map (x ∷ xs) f) in
-        (get_or (x ∷ xs) h.0 x, sym h.2 ∙ get_or-map f (x ∷ xs) h.0 x y lt, Contains-get_or (x ∷ xs) h.0 x lt)
-
-    back : ((x : X) × (y ≡ f x) × Contains xs x) → Contains (map f xs) y
-    back h = (h.2.0, omega (arith, h.2.1, length-map xs f), get_or-map f xs h.2.0 h.0 y h.2.1 ∙ ap f h.2.2 ∙ sym h.1)
-
-pub cons_cases : {X : Type 0} (w : X) (xs : List X) (a : X) → Contains (w ∷ xs) a → (w ≡ a) ⊎ Contains xs a
-cons_cases w xs a h = go h.0 h.1 h.2
-  where
-    go : (k : ℕ) → k < length (w ∷ xs) → get_or (w ∷ xs) k a ≡ a → (w ≡ a) ⊎ Contains xs a
-    go zero lt e = inl e
-    go (suc k) lt e = inr (k, omega arith, e)
-
-all_from : {X : Type 0} (P : X → Type 0) (xs : List X) → ((x : X) → Contains xs x → P x) → AllByRecursion P xs
-all_from P [] h = tt
-all_from P (x ∷ xs) h = (h x (0, omega arith, refl), all_from P xs (λ y c. h y (Contains-append_right (x ∷ []) xs y c)))
-
-pub all_of : {X : Type 0} (P : X → Type 0) (xs : List X) (x : X) → AllByRecursion P xs → Contains xs x → P x
-all_of P [] x all c = absurd (omega (arith, c.1))
-all_of P (y ∷ xs) x all c = go (all_of P xs x all.1) (cons_cases y xs x c)
-  where
-    go : (Contains xs x → P x) → (y ≡ x) ⊎ Contains xs x → P x
-    go rest (inl e) = subst P e all.0
-    go rest (inr d) = rest d
-
-pub all_both : {X : Type 0} (P : X → Type 0) (xs ys : List X) → AllByRecursion P xs → AllByRecursion P ys → AllByRecursion P (xs ++ ys)
-all_both P [] ys h k = k
-all_both P (x ∷ xs) ys h k = (h.0, all_both P xs ys h.1 k)
-
-pub all_mapped : {X Y : Type 0} (f : X → Y) (P : X → Type 0) (Q : Y → Type 0) (xs : List X) → ((x : X) → P x → Q (f x)) → AllByRecursion P xs → AllByRecursion Q (map f xs)
-all_mapped f P Q [] h k = tt
-all_mapped f P Q (x ∷ xs) h k = (h x k.0, all_mapped f P Q xs h k.1)
-
-pub all_weaker : {X : Type 0} (P Q : X → Type 0) (xs : List X) → ((x : X) → P x → Q x) → AllByRecursion P xs → AllByRecursion Q xs
-all_weaker P Q [] h k = tt
-all_weaker P Q (x ∷ xs) h k = (h x k.0, all_weaker P Q xs h k.1)
 
 -- two lists one after the other, where all of the first stands before all of the second
 in_order_append : (xs ys : List Divided) → AreInOrder xs → AreInOrder ys
     → ((x y : Divided) → Contains xs x → Contains ys y → ComesBefore (lengths x.1) (lengths y.1)) → AreInOrder (xs ++ ys)
 in_order_append [] ys h k apart = k
 in_order_append (x ∷ xs) ys h k apart = (
-  all_both (λ y. ComesBefore (lengths x.1) (lengths y.1)) xs ys h.0 (all_from (λ y. ComesBefore (lengths x.1) (lengths y.1)) ys (λ y c. apart x y (0, omega arith, refl) c)),
+  all_append (λ y. ComesBefore (lengths x.1) (lengths y.1)) xs ys h.0 (all_from (λ y. ComesBefore (lengths x.1) (lengths y.1)) ys (λ y c. apart x y (0, omega arith, refl) c)),
   in_order_append xs ys h.1 k (λ z y c d. apart z y (Contains-append_right (x ∷ []) xs z c) d),
 )
 
@@ -78,7 +36,7 @@ in_order_apart (z ∷ xs) ys x y h c d = go (in_order_apart xs ys x y h.1) (cons
   where
     go : (Contains xs x → Contains ys y → ComesBefore (lengths x.1) (lengths y.1)) → (z ≡ x) ⊎ Contains xs x → ComesBefore (lengths x.1) (lengths y.1)
     go rest (inl e) =
-        subst (λ (w : Divided). ComesBefore (lengths w.1) (lengths y.1)) e (all_of (λ (v : Divided). ComesBefore (lengths z.1) (lengths v.1)) (xs ++ ys) y h.0 (Contains-append_right xs ys y d))
+        subst (λ (w : Divided). ComesBefore (lengths w.1) (lengths y.1)) e (all_contained (λ (v : Divided). ComesBefore (lengths z.1) (lengths v.1)) (xs ++ ys) y h.0 (Contains-append_right xs ys y d))
     go rest (inr b) = rest b d
 
 in_order_mapped : (f : Divided → Divided) (all : List Divided) → ((x y : Divided) → ComesBefore (lengths x.1) (lengths y.1) → ComesBefore (lengths (f x).1) (lengths (f y).1))
@@ -97,7 +55,7 @@ module _ (Stand : SlotRange → Type 0) where
   pub same_splits : (P Q : List Variable → List SlotRange → Type 0) (all : List Divided) → ((vs : List Variable) (ps : List SlotRange) → P vs ps ↔ Q vs ps)
       → AreSplits Stand P all → AreSplits Stand Q all
   same_splits P Q all h s = record {
-    each = all_weaker (λ (d : Divided). P d.0 d.1) (λ (d : Divided). Q d.0 d.1) all (λ d. (h d.0 d.1).0) s.each;
+    each = all_also (λ (d : Divided). P d.0 d.1) (λ (d : Divided). Q d.0 d.1) all (λ d. (h d.0 d.1).0) s.each;
     kept = λ vs ps q stand. s.kept vs ps ((h vs ps).1 q) stand;
     in_order = s.in_order;
   }
@@ -128,7 +86,7 @@ module _ (Stand : SlotRange → Type 0) where
     pub one_end_cut : (k : ℕ) (all : List Divided) → (Stand (range_of c binds n k) → ⊥) → AreSplits Stand (IsHead c binds n low k Rest) all
         → AreSplits Stand (IsHead c binds n low (k + 1) Rest) all
     one_end_cut k all cut s = record {
-      each = all_weaker (λ (d : Divided). IsHead c binds n low k Rest d.0 d.1) (λ (d : Divided). IsHead c binds n low (k + 1) Rest d.0 d.1) all (λ d. higher k d.0 d.1) s.each;
+      each = all_also (λ (d : Divided). IsHead c binds n low k Rest d.0 d.1) (λ (d : Divided). IsHead c binds n low (k + 1) Rest d.0 d.1) all (λ d. higher k d.0 d.1) s.each;
       kept = kept;
       in_order = s.in_order;
     }
@@ -145,15 +103,15 @@ module _ (Stand : SlotRange → Type 0) where
     pub one_end_more : (k : ℕ) (all more : List Divided) → low ≤ k → AreSplits Stand (IsHead c binds n low k Rest) all → AreSplits Stand (Rest k) more
         → n ≤ low → AreSplits Stand (IsHead c binds n low (k + 1) Rest) (all ++ map (after ([], range_of c binds n k ∷ [])) more)
     one_end_more k all more some s rest start = record {
-      each = all_both (λ (d : Divided). IsHead c binds n low (k + 1) Rest d.0 d.1) all (map f more)
-          (all_weaker (λ (d : Divided). IsHead c binds n low k Rest d.0 d.1) (λ (d : Divided). IsHead c binds n low (k + 1) Rest d.0 d.1) all (λ d. higher k d.0 d.1) s.each)
+      each = all_append (λ (d : Divided). IsHead c binds n low (k + 1) Rest d.0 d.1) all (map f more)
+          (all_also (λ (d : Divided). IsHead c binds n low k Rest d.0 d.1) (λ (d : Divided). IsHead c binds n low (k + 1) Rest d.0 d.1) all (λ d. higher k d.0 d.1) s.each)
           (all_mapped f (λ (d : Divided). Rest k d.0 d.1) (λ (d : Divided). IsHead c binds n low (k + 1) Rest d.0 d.1) more (λ d r. (refl, some, omega arith, r)) rest.each);
       kept = kept;
       in_order = in_order_append all (map f more) s.in_order
           (in_order_mapped f more (λ x y b. inr (refl, b)) rest.in_order)
           (λ x y a b. (let g = (contains_map f more y).0 b in
           subst (λ (z : Divided). ComesBefore (lengths x.1) (lengths z.1)) (sym g.1)
-          (shorter x.0 x.1 (g.0).1 (all_of (λ (d : Divided). IsHead c binds n low k Rest d.0 d.1) all x s.each a))));
+          (shorter x.0 x.1 (g.0).1 (all_contained (λ (d : Divided). IsHead c binds n low k Rest d.0 d.1) all x s.each a))));
     }
       where
         f : Divided → Divided
@@ -222,14 +180,6 @@ module _ (Stand : SlotRange → Type 0) where
 abbrev pub no_token : of_tokens.Token
 no_token = record { kind = kinds.Word; text = record { ref_ptr = (0, 0); now = [] }; span = record { from = 0; to = 0 }; line = 0 }
 
--- the token at a place, as definitions see it
-pub token_or_at : {X Y : Type 0} (f : X → Y) (xs : List X) (n : ℕ) (d : X) → n < length xs → slice_get (map f xs) n ≡ Some (f (get_or xs n d))
-token_or_at f xs n d h = slice_get-map f xs n ∙ ap (option_map f) (slice_get-get_or xs n d h)
-
 pub if_ok : {T E : Type 0} (r : Result T E) (P Q : T → Type 0) → ((x : T) → P x → Q x) → IfOk r P → IfOk r Q
 if_ok (Ok x) P Q f h = f x h
 if_ok (Err e) P Q f h = tt
-
--- a token at a place is that one exactly where the place has it
-pub at_place : {X : Type 0} (xs : List X) (n : ℕ) (x y : X) (r : Bool) → slice_get xs n ≡ Some x → (IsTrue r ↔ (x ≡ y)) → IsTrue r ↔ (slice_get xs n ≡ Some y)
-at_place xs n x y r e h = (λ t. e ∙ ap Some (h.0 t), λ f. (let two : Some x ≡ Some y = sym e ∙ f in let same : x ≡ y = cc in h.1 same))

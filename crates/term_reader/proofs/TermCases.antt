@@ -28,12 +28,8 @@ use Rattle.term_reader.specs.Splitting.{SlotRange, Divided, split, IsSplit, IsBr
 use Rattle.term_reader.proofs.Finding.{AreFirst-same, AreFirst-joined, AreFirst-full, AreFirst-map, IsPair, AreFirst-paired}
 use Rattle.term_reader.proofs.PartLemmas.{with_last_apart}
 use Rattle.term_reader.proofs.Pieces.{numbers, words_of, known_own, own_words, split_from, read_split, brackets_from, brackets_read}
-use Rattle.term_reader.proofs.SplitLemmas.{all_of, in_order_apart}
-
-pub all_at : {X : Type 0} (P : X → Type 0) (xs : List X) (n : ℕ) (x : X) → AllByRecursion P xs → slice_get xs n ≡ Some x → P x
-all_at P [] n x all e = absurd (cc)
-all_at P (y ∷ xs) zero x all e = let same : y ≡ x = cc in subst P same all.0
-all_at P (y ∷ xs) (suc n) x all e = all_at P xs n x all.1 e
+use Rattle.term_reader.proofs.SplitLemmas.{in_order_apart}
+use Rattle.binding_terms.proofs.Lists.{all_at, all_contained}
 
 -- two metavariables with one name
 two_names : (metas : List MetaDecl) (m n : ℕ) (d e : MetaDecl) → NamesApart metas → m < n → slice_get metas m ≡ Some d → slice_get metas n ≡ Some e → d.name ≡ e.name → ⊥
@@ -450,7 +446,7 @@ module _ (sheet : Sheet) (vars : List Variable) (known : AreKnown sheet vars) (n
           let d = h.0 in
           let m = h.2 in
           let is : IsSplit sheet.sig.now (tokens_of sheet) to items n d.0 d.1 =
-          all_of (λ (x : Divided). IsSplit sheet.sig.now (tokens_of sheet) to items n x.0 x.1) all d splits.each h.1 in
+          all_contained (λ (x : Divided). IsSplit sheet.sig.now (tokens_of sheet) to items n x.0 x.1) all d splits.each h.1 in
           let read = read_split sheet vars d.0 to items n d.0 d.1 m.0 m.1 some within is m.4 in (
             m.1,
             lengths d.1,
@@ -494,7 +490,7 @@ module _ (sheet : Sheet) (vars : List Variable) (known : AreKnown sheet vars) (n
           let d = h.0 in
           let k = h.2 in
           let is : IsBracketed (tokens_of sheet) to params n d.0 d.1 =
-          all_of (λ (x : Divided). IsBracketed (tokens_of sheet) to params n x.0 x.1) all d splits.each h.1 in
+          all_contained (λ (x : Divided). IsBracketed (tokens_of sheet) to params n x.0 x.1) all d splits.each h.1 in
           (values (bare k.1), lengths d.1, k.0, k.2, k.3, brackets_read sheet vars d.0 to params n d.0 d.1 k.0 k.1 some within is k.4)
 
       back : abbrev_of → IsMadeIn sheet vars 1 (Meta m) all w s

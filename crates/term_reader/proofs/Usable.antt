@@ -10,27 +10,11 @@ use Rattle.term_reader.specs.declared.sheet.Sheet.{Sheet}
 use Rattle.term_reader.specs.declared.splitting.Piece.{Piece}
 use Rattle.term_reader.specs.declared.splitting.Split.{Split}
 use Rattle.term_reader.proofs.Pieces.{known_split, split_within, longest_short, brackets_within}
-use Rattle.term_reader.proofs.SplitLemmas.{all_weaker}
+use Rattle.binding_terms.proofs.Lists.{all_also, all_pick, mapped_around}
 
 -- what reading a place past the end would give
 abbrev pub no_piece : Piece
 no_piece = record { cat = record { 0 = 0 }; binds = record { ref_ptr = (0, 0); now = [] }; from = 0; to = 0 }
-
--- a list around one of its places
-pub mapped_around : {X Y : Type 0} (f : X → Y) (xs : List X) (j : ℕ) (x : X) → j < length xs → map f xs ≡ map f (take j xs) ++ (f (get_or xs j x) ∷ map f (drop (j + 1) xs))
-mapped_around f xs j x h =
-    ap (map f) (sym (take-append-drop j xs)) ∙ map-append f (take j xs) (drop j xs) ∙ ap (λ ys. map f (take j xs) ++ map f ys) (drop_more xs j x h)
-
-pub mapped_parts : {X Y : Type 0} (f : X → Y) (xs : List X) (j : ℕ) → map f xs ≡ map f (take j xs) ++ map f (drop j xs)
-mapped_parts f xs j = ap (map f) (sym (take-append-drop j xs)) ∙ map-append f (take j xs) (drop j xs)
-
-all_middle : {X : Type 0} (P : X → Type 0) (front rest : List X) (x : X) → AllByRecursion P (front ++ (x ∷ rest)) → P x
-all_middle P [] rest x h = h.0
-all_middle P (y ∷ front) rest x h = all_middle P front rest x h.1
-
-pub all_at_place : {X Y : Type 0} (f : X → Y) (P : Y → Type 0) (xs : List X) (j : ℕ) (x : X) → j < length xs → AllByRecursion P (map f xs) → P (f (get_or xs j x))
-all_at_place f P xs j x h all =
-    all_middle P (map f (take j xs)) (map f (drop (j + 1) xs)) (f (get_or xs j x)) (subst (AllByRecursion P) (mapped_around f xs j x h) all)
 
 longest_middle : (front rest : List SlotRange) (p : SlotRange) → p.to - p.from ≤ longest (front ++ (p ∷ rest))
 longest_middle [] rest p = omega arith
@@ -52,7 +36,7 @@ reach_at all j here h is =
     subst (λ qs. longest (split here).1 + 1 ≤ reach qs) (sym e) (reach_middle (map split (take j all)) (map split (drop (j + 1) all)) (split here))
 
 pub split_at : (P : Divided → Type 0) (all : List Split) (j : ℕ) (here : Split) → j < length all → here ≡ get_or all j here → AllByRecursion P (map split all) → P (split here)
-split_at P all j here h is all_hold = subst (λ s. P (split s)) (sym is) (all_at_place split P all j here h all_hold)
+split_at P all j here h is all_hold = subst (λ s. P (split s)) (sym is) (all_pick split P all j here h all_hold)
 
 reach_all : (all : List Divided) (m : ℕ) → AllByRecursion (λ (d : Divided). longest d.1 < m) all → reach all ≤ m
 reach_all [] m h = omega arith
@@ -60,29 +44,29 @@ reach_all (d ∷ all) m h = let one = h.0 in omega (arith, one, reach_all all m 
 
 module _ (sheet : Sheet) (n to : ℕ) (within : to ≤ length sheet.tokens.now) where
   lies : (ps : List SlotRange) → AreWithin to ps → AreWithin (length sheet.tokens.now) ps
-  lies ps w = all_weaker (λ (p : SlotRange). (p.from ≤ p.to) × (p.to ≤ to)) (λ (p : SlotRange). (p.from ≤ p.to) × (p.to ≤ length sheet.tokens.now)) ps
+  lies ps w = all_also (λ (p : SlotRange). (p.from ≤ p.to) × (p.to ≤ to)) (λ (p : SlotRange). (p.from ≤ p.to) × (p.to ≤ length sheet.tokens.now)) ps
       (λ p h. (h.0, (let le = h.1 in omega (arith, le)))) w
 
   -- splits of several items
   pub usable_splits : (items : List Item) (all : List Divided) → AreSplits (Stands sheet) (IsSplit sheet.sig.now (tokens_of sheet) to items n) all → AreUsable sheet all
   usable_splits items all s =
-      all_weaker (λ (d : Divided). IsSplit sheet.sig.now (tokens_of sheet) to items n d.0 d.1) (λ (d : Divided). AreKnown sheet d.0 × AreWithin (length sheet.tokens.now) d.1) all
+      all_also (λ (d : Divided). IsSplit sheet.sig.now (tokens_of sheet) to items n d.0 d.1) (λ (d : Divided). AreKnown sheet d.0 × AreWithin (length sheet.tokens.now) d.1) all
       (λ d h. (known_split sheet to items n d.0 d.1 h, lies d.1 (split_within sheet.sig.now (tokens_of sheet) to items n d.0 d.1 h))) s.each
 
   pub reach_splits : (items : List Item) (all : List Divided) → items ≢ [] → (IsSingle items → ⊥)
       → AreSplits (Stands sheet) (IsSplit sheet.sig.now (tokens_of sheet) to items n) all → reach all ≤ to - n
   reach_splits items all some single s = reach_all all (to - n)
-      (all_weaker (λ (d : Divided). IsSplit sheet.sig.now (tokens_of sheet) to items n d.0 d.1) (λ (d : Divided). longest d.1 < to - n) all
+      (all_also (λ (d : Divided). IsSplit sheet.sig.now (tokens_of sheet) to items n d.0 d.1) (λ (d : Divided). longest d.1 < to - n) all
       (λ d h. (let short = longest_short sheet.sig.now (tokens_of sheet) to items n d.0 d.1 some single h in omega (arith, short))) s.each)
 
   -- splits of brackets
   pub usable_brackets : (params : List CatId) (all : List Divided) → AreSplits (Stands sheet) (IsBracketed (tokens_of sheet) to params n) all → AreUsable sheet all
   usable_brackets params all s =
-      all_weaker (λ (d : Divided). IsBracketed (tokens_of sheet) to params n d.0 d.1) (λ (d : Divided). AreKnown sheet d.0 × AreWithin (length sheet.tokens.now) d.1) all
+      all_also (λ (d : Divided). IsBracketed (tokens_of sheet) to params n d.0 d.1) (λ (d : Divided). AreKnown sheet d.0 × AreWithin (length sheet.tokens.now) d.1) all
       (λ d h. (let w = brackets_within (tokens_of sheet) to params n d.0 d.1 h in (subst (AreKnown sheet) (sym w.2) tt, lies d.1 w.0))) s.each
 
   pub reach_brackets : (params : List CatId) (all : List Divided) → n ≤ to
       → AreSplits (Stands sheet) (IsBracketed (tokens_of sheet) to params n) all → reach all ≤ to - n + 1
   reach_brackets params all le s = reach_all all (to - n + 1)
-      (all_weaker (λ (d : Divided). IsBracketed (tokens_of sheet) to params n d.0 d.1) (λ (d : Divided). longest d.1 < to - n + 1) all
+      (all_also (λ (d : Divided). IsBracketed (tokens_of sheet) to params n d.0 d.1) (λ (d : Divided). longest d.1 < to - n + 1) all
       (λ d h. (let w = brackets_within (tokens_of sheet) to params n d.0 d.1 h in let short = w.1 in omega (arith, short))) s.each)

@@ -3,7 +3,6 @@ use Rattle.std.proofs.Common.{◌≡◌, ◌⊎◌, ℕ, zero, suc, ◌+◌, rev
 use Rattle.std.specs.List.{AllByRecursion, AllZip}
 use Rattle.binding_terms.specs.Tree.{var}
 use Rattle.binding_terms.specs.Scope.{IsTerm}
-use Rattle.binding_terms.proofs.Frames.{append_within}
 use Rattle.scheme_terms.specs.SchemeTree.{SchemeTree, meta, no_values, values}
 use Rattle.scheme_terms.specs.Forms.{Names, Instance, ContextValue, Substitution}
 use Rattle.scheme_terms.specs.Context.{IsValue, scope_of}
@@ -11,7 +10,7 @@ use Rattle.scheme_terms.specs.Instance.{instance_of, IsMetaValue}
 use Rattle.scheme_terms.specs.SchemeScope.{IsScheme, params_scope}
 use Rattle.scheme_terms.specs.Substituting.{applied, followed, followed_metas, params, parameters}
 use Rattle.scheme_terms.specs.declared.scheme.MetaDecl.{MetaDecl}
-use Rattle.scheme_terms.proofs.Options.{zip_at, match_some}
+use Rattle.scheme_terms.proofs.Options.{zip_at}
 use Rattle.pattern_unify.proofs.PlainSchemes.{all_at}
 use Rattle.pattern_unify.proofs.Places.{numbered, numbered_at, within as place_within}
 use Rattle.rule_schemes.specs.Plain.{IsPlainSystem}
@@ -30,6 +29,7 @@ use Rattle.core_proofs.proofs.Keeping.{plain_scope}
 use Rattle.scheme_match.proofs.Solving.{instance_meta}
 use Rattle.theorem_runner.specs.Instances.{Gives}
 use Rattle.theorem_runner.proofs.Restricting.{of_inputs_below}
+use Rattle.binding_terms.proofs.Lists.{append_within, match_some}
 
 -- the value at a place of a substitution followed by an instance
 followed_at : (ms : List MetaDecl) (ss : List SchemeTree) (inst : Instance) (m : ℕ) (decl : MetaDecl) (s : SchemeTree) → slice_get ms m ≡ Some decl → slice_get ss m ≡ Some s →

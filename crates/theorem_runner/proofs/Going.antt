@@ -24,6 +24,7 @@ use Rattle.theorem_runner.specs.Runs.{IsRun, GoesOn, IsAtEnd}
 use Rattle.theorem_runner.proofs.Bodies.{proof_of, one_body}
 use Rattle.theorem_runner.proofs.Values.{last_made}
 use Rattle.theorem_runner.proofs.ValueLaws.{given_count, body_leads, value_is_one, value_derives}
+use Rattle.binding_terms.proofs.Lists.{last_same}
 
 pub same_subtrees : (ds : List Derivation) → subtrees_of ds ≡ subtrees ds
 same_subtrees [] = refl
@@ -68,14 +69,6 @@ step_at steps i s h e = slice_get-map step steps i ∙ ap (option_map step) (sli
 
 pub next_step : (steps : List Step) (i : ℕ) (s : Step) → slice_get steps i ≡ Some s → drop i steps ≡ s ∷ drop (i + 1) steps
 next_step steps i s e = drop_more steps i s (slice_get_within steps i s e) ∙ ap (λ x. x ∷ drop (i + 1) steps) (get_or_from_slice_get steps i s s e)
-
-last_same : {A : Type 0} (xs ys : List A) (a b : A) → xs ++ a ∷ [] ≡ ys ++ b ∷ [] → a ≡ b
-last_same [] [] a b e = cc
-last_same [] (y ∷ []) a b e = absurd (let no : ⊥ = cc in no)
-last_same [] (y ∷ (z ∷ ys)) a b e = absurd (let no : ⊥ = cc in no)
-last_same (x ∷ []) [] a b e = absurd (let no : ⊥ = cc in no)
-last_same (x ∷ (z ∷ xs)) [] a b e = absurd (let no : ⊥ = cc in no)
-last_same (x ∷ xs) (y ∷ ys) a b e = let rest : xs ++ a ∷ [] ≡ ys ++ b ∷ [] = cc in last_same xs ys a b rest
 
 bounded : (scoped : List JudgmentScheme) (count : ℕ) → length scoped ≡ count → (on : List ℕ) (cited : List JudgmentScheme) → AreCited scoped on cited → AllByRecursion (λ n. n < count) on
 bounded scoped count same [] cited h = tt

@@ -7,13 +7,12 @@ use Rattle.std.proofs.lemmas.Option.{same_Some, get_or_from_slice_get, slice_get
 use Rattle.std.proofs.lemmas.Slice.Zip.{AllZip-long}
 use Rattle.binding_terms.specs.Numbered.{AnyByRecursion}
 use Rattle.binding_terms.specs.Signature.{slots}
-use Rattle.binding_terms.proofs.Frames.{append_within}
 use Rattle.scheme_terms.specs.Forms.{Names, Instance, ContextValue, KnownVariable}
 use Rattle.scheme_terms.specs.Context.{AreArguments, IsValue, scope_of}
 use Rattle.scheme_terms.specs.Instance.{IsMetaValue, IsKnownPlace}
 use Rattle.scheme_terms.specs.declared.scheme.MetaDecl.{MetaDecl}
 use Rattle.scheme_terms.specs.declared.scheme.Root.TheVariants.{Closed}
-use Rattle.scheme_terms.proofs.Options.{match_some, zip_at}
+use Rattle.scheme_terms.proofs.Options.{zip_at}
 use Rattle.pattern_unify.proofs.Places.{numbered, numbered_at}
 use Rattle.rule_schemes.specs.Plain.{IsPlainSystem}
 use Rattle.rule_schemes.specs.Rules.{JudgmentScheme, Theory, root_of, argument_slots}
@@ -29,6 +28,7 @@ use Rattle.theorem_runner.specs.Instances.{no_context_value, IsDerived, Gives, I
 use Rattle.theorem_runner.proofs.Pairs.{put_pair, input_pairs}
 use Rattle.theorem_runner.proofs.OneInstance.{no_places}
 use Rattle.theorem_runner.proofs.Restricting.{of_inputs_below}
+use Rattle.binding_terms.proofs.Lists.{append_within, match_some}
 
 -- what is known of the pairs so far, one input on
 module _ {A B : Type 0} (f : A → StatementInput) (g : B → InputTree) (ins : List A) (outs : List B) (i : ℕ) (a : A) (b : B) (here : slice_get ins i ≡ Some a) (there : slice_get outs i ≡ Some b) where

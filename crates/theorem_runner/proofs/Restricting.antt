@@ -17,6 +17,7 @@ use Rattle.core_proofs.specs.Provable.{IsProvable, IsOfDerivation}
 use Rattle.core_proofs.proofs.Keeping.{plain_scope, plain_beginning}
 use Rattle.theorem_runner.specs.Instances.{Gives, IsOnlyInstance}
 use Rattle.theorem_runner.proofs.PlainInstances.{names_below, same_judgment}
+use Rattle.binding_terms.proofs.Lists.{numbered_front}
 
 abbrev values_of_names : Instance → ℕ → List MetaDecl → List (Option Tree)
 values_of_names inst n [] = []
@@ -34,11 +35,6 @@ value_at inst n (decl ∷ decls) (suc k) h =
 pub same_given : (inst : Instance) (scope : Names) (m : ℕ) → m < length scope.metas → given_value (restricted inst scope) m ≡ given_value inst m
 same_given inst scope m h =
     ap (λ o. unwrap_or o None) (value_at inst 0 scope.metas m h) ∙ ap (given_value inst) (let e : 0 + m ≡ m = omega arith in e)
-
--- the values are those of the names of a front
-front_numbered : {A : Type 0} (P : ℕ → A → Type 0) (n : ℕ) (xs ys : List A) → AllNumbered P n (xs ++ ys) → AllNumbered P n xs
-front_numbered P n [] ys h = tt
-front_numbered P n (x ∷ xs) ys h = (h.0, front_numbered P (suc n) xs ys h.1)
 
 module _ (th : Theory) (system : IsPlainSystem th) (st : Theorem) (provable : IsProvable th st) (scope : Names) (is : IsProofScope st scope) where
   pub forms_plain : AllByRecursion (IsPlainForm th scope) (given_judgments st.inputs)
@@ -69,7 +65,7 @@ module _ (th : Theory) (system : IsPlainSystem th) (st : Theorem) (provable : Is
     restricted_fits = record {
       root = subst (λ root. IsValue th.sig root inst.root) (sym is.root) gives.fits.root;
       metas = zip_values 0 scope.metas is.of_inputs
-          (front_numbered (λ m decl. IsOfInputs st m → IsMetaValue th.sig inst decl (given_value inst m)) 0 scope.metas is.goal_names
+          (numbered_front (λ m decl. IsOfInputs st m → IsMetaValue th.sig inst decl (given_value inst m)) 0 scope.metas is.goal_names
           (subst (λ (ms : List MetaDecl). AllNumbered (λ m decl. IsOfInputs st m → IsMetaValue th.sig inst decl (given_value inst m)) 0 ms) is.split gives.fits.metas));
       knowns = subst (λ ks. AllZip (IsKnownPlace r) ks []) (sym is.knowns) tt;
     }

@@ -26,6 +26,7 @@ use Rattle.theorem_runner.proofs.Concluding.{concludes}
 use Rattle.theorem_runner.proofs.OneInstance.{one_instance}
 use Rattle.theorem_runner.proofs.Restricting.{restricted, restricted_gives, same_given, of_inputs_below}
 use Rattle.theorem_runner.proofs.Values.{makes_some, makes_one}
+use Rattle.binding_terms.proofs.Lists.{all_from_places}
 
 -- as many derivations are given as there are forms of derivations
 pub given_count : (th : Theory) (inst : Instance) (inputs : List StatementInput) (xs : List InputTree) → AllZip (IsGiven th inst) inputs xs →
@@ -98,10 +99,6 @@ value_is_one th sts steps k v xs d e plain h g =
     let body : g.body ≡ h.body = one_body th sts steps g.before h.before g.body h.body k (outside 0) (outside (length sts)) plain.proves g.split h.split in
     let makes = subst (λ ss. Makes th h.inst (given_trees xs) None ss e) body (subst (λ (i : Instance). Makes th i (given_trees xs) None g.body e) inst g.makes) in
     makes_one th h.inst h.body (given_trees xs) None d e h.makes makes
-
-all_from_places : {A : Type 0} (P : A → Type 0) (xs : List A) → ((k : ℕ) (x : A) → slice_get xs k ≡ Some x → P x) → AllByRecursion P xs
-all_from_places P [] h = tt
-all_from_places P (x ∷ xs) h = (h 0 x refl, all_from_places P xs (λ k y e. h (suc k) y e))
 
 premise_facts : (th : Theory) (names : Names) (ps : List JudgmentScheme) → AllByRecursion (IsPlainForm th names) ps →
     AllByRecursion (λ p. p.context.root ≡ Closed) ps × AllByRecursion (IsJudgmentScheme th names) ps

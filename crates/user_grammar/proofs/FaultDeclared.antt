@@ -17,7 +17,8 @@ use Rattle.user_grammar.specs.Finding.{IsLeast, IsEarlierOf, OfSome, Either, AtT
 use Rattle.user_grammar.specs.declared.fault_found.Found.{Found}
 use Rattle.user_grammar.specs.declared.fault_declared.Declaration.{Declaration}
 use Rattle.user_grammar.proofs.Spellings.{common_spelling as spells_other}
-use Rattle.user_grammar.proofs.FaultLeast.{least_same, least_token_more, least_token_same, least_none, any_left, any_right, any_cases, any_contained, contained_any, refused}
+use Rattle.user_grammar.proofs.FaultLeast.{least_same, least_token_more, least_token_same, least_none, refused}
+use Rattle.binding_terms.proofs.Lists.{any_back, any_contained, any_front, any_split, contained_any, nothing_before, split_last}
 
 -- ---- variables
 
@@ -53,23 +54,6 @@ declare_push portions (q ∷ ps) p ds own all here =
     (all.0, all.1 ++ own, ap (λ xs. xs ++ own) all.2 ∙ append_assoc all.0 all.1 own, all.3, declare_push portions ps p all.1 own all.4 here)
 
 -- ---- common spellings
-
-nothing_before : {A : Type 0} (before : List A) (y : A) (after : List A) → [] ≡ before ++ y ∷ after → ⊥
-nothing_before [] y after e = cc
-nothing_before (b ∷ before) y after e = cc
-
--- a place in a list with one element more
-pub split_last : {A : Type 0} (ds : List A) (x : A) (before : List A) (y : A) (after : List A) → ds ++ x ∷ [] ≡ before ++ y ∷ after
-    → ((ds ≡ before) × (x ≡ y)) ⊎ ((rest : List A) × (ds ≡ before ++ y ∷ rest))
-split_last [] x [] y after e = inl (refl, cc)
-split_last [] x (b ∷ before) y after e = absurd (nothing_before before y after (let tail : [] ≡ before ++ y ∷ after = cc in tail))
-split_last (d ∷ ds) x [] y after e = let head : d ≡ y = cc in inr (ds, ap (λ z. z ∷ ds) head)
-split_last (d ∷ ds) x (b ∷ before) y after e =
-    let head : d ≡ b = cc in let tail : ds ++ x ∷ [] ≡ before ++ y ∷ after = cc in
-    elim (split_last ds x before y after tail) [
-      | inl l ↦ inl ((ap (λ z. z ∷ ds) head ∙ ap (λ zs. b ∷ zs) l.0), l.1)
-      | inr r ↦ inr (r.0, (ap (λ z. z ∷ ds) head ∙ ap (λ zs. b ∷ zs) r.1))
-    ]
 
 common_cases : (ds : List Declared) (x : Declared) (t : PlainToken) → IsCommon (ds ++ x ∷ []) t
     → IsCommon ds t ⊎ ((t ≡ x.token) × AnyByRecursion (λ earlier. HaveCommon earlier x) ds)
@@ -154,7 +138,7 @@ common_by_second one other p q is also none = (
 -- ---- some tokens
 
 one_token_cases : (ts : List PlainToken) (t s : PlainToken) → IsOneToken (ts ++ t ∷ []) s → IsOneToken ts s ⊎ (s ≡ t)
-one_token_cases ts t s is = elim (any_cases (λ one. one ≡ s) ts (t ∷ []) is.is) [
+one_token_cases ts t s is = elim (any_split (λ one. one ≡ s) ts (t ∷ []) is.is) [
   | inl l ↦ inl (record { is = l })
   | inr r ↦ elim r [ inl same ↦ inr (sym same) | inr never ↦ absurd never ]
 ]
@@ -167,7 +151,7 @@ token_more view c xs i d f a r lt found is all =
     let more : ts ++ t ∷ [] ≡ map view (take (i + 1) xs) = sym (map-append view (take i xs) (get_or xs i d ∷ [])) ∙ ap (map view) (sym (take_more xs i d lt)) in
     subst (λ ys. IsLeast (AtToken c (IsOneToken ys)) r) more
     (least_token_more c (IsOneToken ts) (IsOneToken (ts ++ t ∷ [])) t f a r
-    (λ s y. record { is = any_left (λ one. one ≡ s) ts (t ∷ []) y.is }) (one_token_cases ts t) (record { is = any_right (λ one. one ≡ t) ts (t ∷ []) (inl refl) }) found is all)
+    (λ s y. record { is = any_front (λ one. one ≡ s) ts (t ∷ []) y.is }) (one_token_cases ts t) (record { is = any_back (λ one. one ≡ t) ts (t ∷ []) (inl refl) }) found is all)
 
 pub least_no_token : (c : Code) → IsLeast (AtToken c (IsOneToken [])) None
 least_no_token c = least_none (AtToken c (IsOneToken [])) (λ o t d x. x.2.is)
@@ -194,7 +178,7 @@ token_split (s ∷ ts) t (inl same) = ([], ts, ap (λ z. z ∷ ts) same)
 token_split (s ∷ ts) t (inr any) = let more = token_split ts t any in (s ∷ more.0, more.1, ap (λ zs. s ∷ zs) more.2)
 
 split_token : (before : List PlainToken) (t : PlainToken) (after : List PlainToken) → AnyByRecursion (λ one. one ≡ t) (before ++ t ∷ after)
-split_token before t after = any_right (λ one. one ≡ t) before (t ∷ after) (inl refl)
+split_token before t after = any_back (λ one. one ≡ t) before (t ∷ after) (inl refl)
 
 duplicate_by_common : (portions : List PlainPortion) (all : List Declared) (t : PlainToken) → DeclareAll portions portions all → IsCommon all t → IsDuplicate portions t
 duplicate_by_common portions all t are is =

@@ -15,15 +15,10 @@ use Rattle.sy_base.specs.declared.fault.Code.TheVariants.{BadContext}
 use Rattle.user_grammar.specs.Fault.{Place, IsOutside, IsPlaceBehind, IsWordOf, DeclaresVariable, IsEmptyForm, IsEntryForm, IsOnlyInFront, IsContextCategory}
 use Rattle.user_grammar.specs.FindingContexts.{One, AllPoints, IsInFront, KeepsFront}
 use Rattle.user_grammar.proofs.FaultContexts.{one_exactly, exactly_one}
-use Rattle.user_grammar.proofs.FaultLawsWords.{of_element}
 use Rattle.user_grammar.proofs.FaultLeast.{refused, least_none, least_named}
 use Rattle.user_grammar.proofs.FaultPoints.{every_point}
 use Rattle.user_grammar.proofs.FaultTokens.{form_split, split_near}
-
--- what holds of each element holds of all
-pub all_elements : {X : Type 0} (P : X → Type 0) (xs : List X) → ((x : X) → Contains xs x → P x) → AllByRecursion P xs
-all_elements P [] each = tt
-all_elements P (x ∷ xs) each = (each x (0, omega arith, refl), all_elements P xs (λ y at. each y (suc at.0, (let lt = at.1 in omega (arith, lt)), at.2)))
+use Rattle.binding_terms.proofs.Lists.{all_contained, all_from}
 
 pub never : {P : Type 0} → (P → ⊥) → IsTrue false ↔ P
 never none = ((λ t. (let wrong : false ≡ true = t in cc)), (λ p. absurd (none p)))
@@ -71,13 +66,13 @@ front_length xs i lt = length-map (take i xs) token_view ∙ length-take-le i xs
 pub only_in_front_is : (portions : List PlainPortion) (written : WrittenCategory) → AllByRecursion (KeepsFront portions written) (categories portions) ↔ IsOnlyInFront portions written
 only_in_front_is portions written = (
   (λ all other form token at among stands word. (
-      let keeps = of_element (KeepsFront portions written) (categories portions) other all at in
-      let points = of_element (λ form. AllPoints portions (IsInFront portions written other) form (length form)) other.forms form keeps among in
+      let keeps = all_contained (KeepsFront portions written) (categories portions) other all at in
+      let points = all_contained (λ form. AllPoints portions (IsInFront portions written other) form (length form)) other.forms form keeps among in
       points.all stands.stands.front stands.stands.rest stands.place token stands.stands.split stands.stands.is_place
       (split_near form stands.stands.front token stands.stands.rest stands.stands.split) stands.is_outside word
       )),
-  (λ only. all_elements (KeepsFront portions written) (categories portions)
-      (λ other at. all_elements (λ form. AllPoints portions (IsInFront portions written other) form (length form)) other.forms
+  (λ only. all_from (KeepsFront portions written) (categories portions)
+      (λ other at. all_from (λ form. AllPoints portions (IsInFront portions written other) form (length form)) other.forms
       (λ form among. record {
         all = λ front rest place token split is_place near out word.
             only other form token at among (record { place = place; stands = record { front = front; rest = rest; split = split; is_place = is_place }; is_outside = out }) word;

@@ -9,8 +9,8 @@ use Rattle.user_grammar.specs.File.{WrittenCategory, categories}
 use Rattle.user_grammar.specs.Fault.{Place, outside, behind_slot, before_word, behind_word, IsPlaceBehind, IsFault, duplicate, empty_production, single_category, unknown_word, unknown_context, bad_binder, binder_twice, bad_context, IsWrongInBrackets, no_word, no_binder, again, no_comma, not_closed, StandsAt}
 use Rattle.user_grammar.specs.Finding.{OfSome, ShortOf, SingleOf, UnknownContexts}
 use Rattle.user_grammar.specs.FindingPlaces.{IsWrongAt, HasCode, unknown, wrong, twice, TokensOf, InProductions, ButContexts, BadContextOf}
-use Rattle.user_grammar.proofs.FaultLeast.{any_contained, contained_any}
 use Rattle.user_grammar.proofs.FaultTokens.{split_near}
+use Rattle.binding_terms.proofs.Lists.{any_contained, contained_any}
 
 module _ (portions : List PlainPortion) where
   wrong_by_place : (form front rest : List PlainToken) (place : Place) (t : PlainToken) → form ≡ front ++ t ∷ rest → IsPlaceBehind portions front place → IsWrongAt portions form rest place t

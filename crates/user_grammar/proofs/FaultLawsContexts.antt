@@ -20,11 +20,12 @@ use Rattle.user_grammar.specs.Names.{category_names, variable_names, IsCategoryW
 use Rattle.user_grammar.specs.Production.{IsMark, AreBrackets, no_brackets, brackets, AreWords, one_more, last_one, AreNumbers, AreItems, no_items, terminal, binder, slot, IsProduction}
 use Rattle.user_grammar.specs.Grammar.{AreForms, no_forms, variable, production, IsWritten}
 use Rattle.user_grammar.specs.Fault.{ExactlyOne, DeclaresVariable, IsBinderWord, Place, outside, behind_slot, slot as to_slot, IsOutside, StandsOutside, IsEmptyForm, HasNoBrackets, IsWordOf, IsEntryForm, IsOnlyInFront, IsContextCategory}
-use Rattle.user_grammar.proofs.Spellings.{Spells, all_right, apart_left, one_category}
+use Rattle.user_grammar.proofs.Spellings.{Spells, apart_left, one_category}
 use Rattle.user_grammar.proofs.OneReading.{not_opened}
-use Rattle.user_grammar.proofs.FaultLawsWords.{of_element, SpellsOption, declared, same_names, slot_word, no_slot_word, no_binder_word, binder_word, slot_or_binder}
+use Rattle.user_grammar.proofs.FaultLawsWords.{SpellsOption, declared, same_names, slot_word, no_slot_word, no_binder_word, binder_word, slot_or_binder}
 use Rattle.user_grammar.proofs.FaultLawsPlaces.{Leads, leads, one_next, IsAhead, items_ahead, ahead_behind}
-use Rattle.user_grammar.proofs.FaultLawsFiles.{numbered_at, IsFound, found, own_variable, own_spelling, variable_items}
+use Rattle.user_grammar.proofs.FaultLawsFiles.{IsFound, found, own_variable, own_spelling, variable_items}
+use Rattle.binding_terms.proofs.Lists.{all_contained, all_right, none_of_them, numbered_at}
 
 -- ---- numbers
 
@@ -43,22 +44,6 @@ number_is_not n m differs = of_two (eqb_tells n m)
     of_two (inr is) = is.0
 
 -- ---- exactly one of a list
-
-none_of_them : {X Y : Type 0} (P : X → Type 0) (test : Y → Bool) (xs : List X) (ys : List Y) → AllZip (λ x y. P x ↔ IsTrue (test y)) xs ys → count_by test ys ≡ 0
-    → AllByRecursion (λ x. P x → ⊥) xs
-none_of_them P test [] [] zip none = tt
-none_of_them P test [] (y ∷ ys) zip none = absurd zip
-none_of_them P test (x ∷ xs) [] zip none = absurd zip
-none_of_them P test (x ∷ xs) (y ∷ ys) zip none =
-    by_test (test y) refl (sym (sum_by-cons (λ z. cond (test z) 1 0) y ys) ∙ none) (none_of_them P test xs ys zip.1)
-  where
-    by_test : (b : Bool) → test y ≡ b → cond b 1 0 + count_by test ys ≡ 0 → (count_by test ys ≡ 0 → AllByRecursion (λ x. P x → ⊥) xs)
-        → AllByRecursion (λ x. P x → ⊥) (x ∷ xs)
-    by_test true is sum behind = absurd (let never : 1 + count_by test ys ≡ 0 = sum in omega (arith, never))
-    by_test false is sum behind = (
-      (λ holds. (let never : false ≡ true = sym is ∙ zip.0.0 holds in cc)),
-      behind (let rest : 0 + count_by test ys ≡ 0 = sum in omega (arith, rest)),
-    )
 
 one_of_them : {X Y : Type 0} (P : X → Type 0) (test : Y → Bool) (xs : List X) (ys : List Y) → AllZip (λ x y. P x ↔ IsTrue (test y)) xs ys → count_by test ys ≡ 1
     → ExactlyOne P xs
@@ -329,7 +314,7 @@ module _ (portions : List PlainPortion) (sig : Signature) (file : IsWritten port
     only_in_front : AllByRecursion (ProdFits sig) sig.prods → IsOnlyInFront portions written
     only_in_front fit other form token at among =
         let there = found portions sig file other fit at in
-        of_element (InFront other there) other.forms form (all_in_front other there there.forms there.fit (own_variable portions sig file other there)) among token
+        all_contained (InFront other there) other.forms form (all_in_front other there there.forms there.fit (own_variable portions sig file other there)) among token
 
     pub keeps_the_rule : Fits sig → IsContextCategory portions written
     keeps_the_rule fits =

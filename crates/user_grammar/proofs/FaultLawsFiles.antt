@@ -17,48 +17,12 @@ use Rattle.user_grammar.specs.Names.{category_names}
 use Rattle.user_grammar.specs.Production.{AreItems, no_items, binder, IsVariable}
 use Rattle.user_grammar.specs.Grammar.{IsCategory, AreForms, no_forms, variable, production, AreProductions, IsWritten}
 use Rattle.user_grammar.specs.Fault.{category_texts, IsSlotWord, IsOneSlot}
-use Rattle.user_grammar.proofs.Spellings.{Spells, all_left, all_right}
-use Rattle.user_grammar.proofs.FaultLawsWords.{number_of, SpellsOption, same_names}
+use Rattle.user_grammar.proofs.Spellings.{Spells}
+use Rattle.user_grammar.proofs.FaultLawsWords.{SpellsOption, same_names}
 use Rattle.user_grammar.proofs.FaultLawsForms.{IsRead, no_items_left, single_item}
+use Rattle.binding_terms.proofs.Lists.{all_also, all_append, all_front, all_right, any_not_none, counted_before, counted_behind, number_of}
 
 -- ---- lists
-
-pub numbered_at : {A : Type 0} (P : ℕ → A → Type 0) (n : ℕ) (xs : List A) (k : ℕ) (x : A) → AllNumbered P n xs → slice_get xs k ≡ Some x → P (n + k) x
-numbered_at P n [] k x all at = cc
-numbered_at P n (y ∷ ys) zero x all at =
-    let same : y ≡ x = cc in let number : n ≡ n + 0 = omega arith in subst (λ m. P m x) number (subst (P n) same all.0)
-numbered_at P n (y ∷ ys) (suc k) x all at =
-    let number : suc n + k ≡ n + suc k = omega arith in subst (λ m. P m x) number (numbered_at P (suc n) ys k x all.1 at)
-
-pub not_any : {X : Type 0} (P : X → Type 0) (xs : List X) → AnyByRecursion P xs → AllByRecursion (λ x. P x → ⊥) xs → ⊥
-not_any P [] some none = some
-not_any P (x ∷ xs) (inl is) none = none.0 is
-not_any P (x ∷ xs) (inr some) none = not_any P xs some none.1
-
-all_both : {X : Type 0} (P : X → Type 0) (xs ys : List X) → AllByRecursion P xs → AllByRecursion P ys → AllByRecursion P (xs ++ ys)
-all_both P [] ys one other = other
-all_both P (x ∷ xs) ys one other = (one.0, all_both P xs ys one.1 other)
-
-all_further : {X : Type 0} (P Q : X → Type 0) (xs : List X) → ((x : X) → P x → Q x) → AllByRecursion P xs → AllByRecursion Q xs
-all_further P Q [] step all = tt
-all_further P Q (x ∷ xs) step all = (step x all.0, all_further P Q xs step all.1)
-
-none_counted : {X : Type 0} (test : X → Bool) (xs : List X) → AllByRecursion (λ x. test x ≡ false) xs → count_by test xs ≡ 0
-none_counted test [] none = refl
-none_counted test (x ∷ xs) none =
-    let rest : count_by test xs ≡ 0 = none_counted test xs none.1 in
-    let sum : 0 + count_by test xs ≡ 0 = omega (arith, rest) in
-    sum_by-cons (λ y. cond (test y) 1 0) x xs ∙ ap (λ b. cond b 1 0 + count_by test xs) none.0 ∙ sum
-
-counted_behind : {X : Type 0} (test : X → Bool) (xs ys : List X) → AllByRecursion (λ x. test x ≡ false) xs → count_by test (xs ++ ys) ≡ count_by test ys
-counted_behind test xs ys none =
-    let sum : 0 + count_by test ys ≡ count_by test ys = omega arith in
-    sum_by-append (λ y. cond (test y) 1 0) xs ys ∙ ap (λ n. n + count_by test ys) (none_counted test xs none) ∙ sum
-
-counted_before : {X : Type 0} (test : X → Bool) (xs ys : List X) → AllByRecursion (λ x. test x ≡ false) ys → count_by test (xs ++ ys) ≡ count_by test xs
-counted_before test xs ys none =
-    let sum : count_by test xs + 0 ≡ count_by test xs = omega arith in
-    sum_by-append (λ y. cond (test y) 1 0) xs ys ∙ ap (λ n. count_by test xs + n) (none_counted test ys none) ∙ sum
 
 pub own_spelling : (name : List ℕ) → IsSpelling name name
 own_spelling name = ([], sym (append-nil name), tt)
@@ -77,9 +41,9 @@ later cats texts n m [] [] prods less made = subst (AllByRecursion (λ p. p.cat.
 later cats texts n m [] (v ∷ vars) prods less made = absurd made
 later cats texts n m (w ∷ written) [] prods less made = absurd made
 later cats texts n m (w ∷ written) (v ∷ vars) prods less made =
-    let first = all_further (λ p. p.cat.0 ≡ m) (λ p. p.cat.0 ≢ n) made.0 (λ p is same. (let both : m ≡ n = sym is ∙ same in omega (arith, both, less))) (numbered made.3) in
+    let first = all_also (λ p. p.cat.0 ≡ m) (λ p. p.cat.0 ≢ n) made.0 (λ p is same. (let both : m ≡ n = sym is ∙ same in omega (arith, both, less))) (numbered made.3) in
     let rest = later cats texts n (suc m) written vars made.1 (omega (arith, less)) made.4 in
-    subst (AllByRecursion (λ p. p.cat.0 ≢ n)) (sym made.2) (all_both (λ p. p.cat.0 ≢ n) made.0 made.1 first rest)
+    subst (AllByRecursion (λ p. p.cat.0 ≢ n)) (sym made.2) (all_append (λ p. p.cat.0 ≢ n) made.0 made.1 first rest)
 
 -- ---- one written category
 
@@ -110,9 +74,9 @@ module _ (portions : List PlainPortion) (sig : Signature) (file : IsWritten port
         made = made.0;
         forms = subst (λ m. AreForms sig.cats (listed portions) m cat.var written.forms made.0) number
             (subst (λ w. AreForms sig.cats (listed portions) n cat.var w.forms made.0) same made.3);
-        fit = all_left (ProdFits sig) made.0 made.1 all;
+        fit = all_front (ProdFits sig) made.0 made.1 all;
         counted = λ test fails. (
-            let none = all_further (λ p. p.cat.0 ≢ n) (λ p. test p ≡ false) made.1 (λ p differs. fails p (subst (λ m. p.cat.0 ≢ m) number differs)) others in
+            let none = all_also (λ p. p.cat.0 ≢ n) (λ p. test p ≡ false) made.1 (λ p differs. fails p (subst (λ m. p.cat.0 ≢ m) number differs)) others in
             ap (count_by test) made.2 ∙ counted_before test made.0 made.1 none);
       }
   part n (w ∷ ws) (cat ∷ own) prods (suc k) written zip made fit at =
@@ -127,7 +91,7 @@ module _ (portions : List PlainPortion) (sig : Signature) (file : IsWritten port
         forms = subst (λ m. AreForms sig.cats (listed portions) m more.cat.var written.forms more.made) number more.forms;
         fit = more.fit;
         counted = λ test fails. (
-            let none = all_further (λ p. p.cat.0 ≡ n) (λ p. test p ≡ false) made.0
+            let none = all_also (λ p. p.cat.0 ≡ n) (λ p. test p ≡ false) made.0
             (λ p is. fails p (λ same. (let both : n ≡ n + suc k = sym is ∙ same in omega (arith, both)))) (numbered made.3) in
             ap (count_by test) made.2 ∙ counted_behind test made.0 made.1 none
             ∙ more.counted test (λ p differs. fails p (subst (λ m. p.cat.0 ≢ m) number differs)));
@@ -205,7 +169,7 @@ module _ (portions : List PlainPortion) (sig : Signature) (file : IsWritten port
 
   variable_is_no_slot : (token : PlainToken) → IsVariable (category_names sig.cats) (listed portions) (token ∷ []) → IsSlotWord portions token → ⊥
   variable_is_no_slot token is slot =
-      not_any (λ name. IsSpelling name token.text) (category_texts portions) slot.1
+      any_not_none (λ name. IsSpelling name token.text) (category_texts portions) slot.1
       (subst (AllByRecursion (λ name. IsSpelling name token.text → ⊥)) (same_names portions sig file) is.3)
 
   pub all_more : {c : ℕ} {var : Option (List ℕ)} {forms : List (List PlainToken)} {prods : List Prod} → AreForms sig.cats (listed portions) c var forms prods

@@ -14,9 +14,10 @@ use Rattle.user_grammar.specs.Names.{IsAmong, IsNoSpelling, names_if, names, cat
 use Rattle.user_grammar.specs.Production.{IsVariable}
 use Rattle.user_grammar.specs.Grammar.{AreForms, no_forms, variable, production, AreProductions, IsWritten}
 use Rattle.user_grammar.specs.Fault.{Sort, a_terminal, a_category, a_variable, Declared, declared_as, IsSpelledBy, AreVariables, no_variables, a_word, a_production, DeclaresHere, DeclareAll, IsDuplicate, common_spelling, second_variable}
-use Rattle.user_grammar.proofs.Spellings.{all_left, all_right, apart_left, apart_right, apart_across}
+use Rattle.user_grammar.proofs.Spellings.{apart_left, apart_right, apart_across}
 use Rattle.user_grammar.proofs.FaultLawsWords.{declared, same_names}
 use Rattle.user_grammar.proofs.FaultLawsFiles.{found}
+use Rattle.binding_terms.proofs.Lists.{all_front, all_right}
 
 -- ---- the names of each sort
 
@@ -197,7 +198,7 @@ module _ (portions : List PlainPortion) (sig : Signature) (file : IsWritten port
 
   no_category_word : (text word : List ℕ) → IsNoSpelling (names sig.cats) word → IsAmong (category_names sig.cats) text → IsSpelling text word → ⊥
   no_category_word text word none among spells =
-      at_text (λ name. IsSpelling name word → ⊥) (category_names sig.cats) text (all_left (λ name. IsSpelling name word → ⊥) (category_names sig.cats) (variable_names sig.cats) none) among spells
+      at_text (λ name. IsSpelling name word → ⊥) (category_names sig.cats) text (all_front (λ name. IsSpelling name word → ⊥) (category_names sig.cats) (variable_names sig.cats) none) among spells
 
   no_variable_word : (text word : List ℕ) → IsNoSpelling (names sig.cats) word → IsAmong (variable_names sig.cats) text → IsSpelling text word → ⊥
   no_variable_word text word none among spells =

@@ -17,18 +17,6 @@ use Rattle.user_grammar.specs.Fault.{category_texts, DeclaresVariable, SpellsVar
 use Rattle.user_grammar.proofs.Spellings.{Spells, not_both, no_category, no_variable}
 use Rattle.user_grammar.proofs.OneSignature.{written_names}
 
--- what holds of all elements holds of one
-pub of_element : {X : Type 0} (P : X → Type 0) (xs : List X) (x : X) → AllByRecursion P xs → Contains xs x → P x
-of_element P [] x all at = absurd (let lt = at.1 in omega (arith, lt))
-of_element P (y ∷ ys) x all (zero, lt, same) = subst P same all.0
-of_element P (y ∷ ys) x all (suc k, lt, same) = of_element P ys x all.1 (k, omega (arith, lt), same)
-
--- and an element has a number
-pub number_of : {X : Type 0} (xs : List X) (x : X) → Contains xs x → (k : ℕ) × (slice_get xs k ≡ Some x)
-number_of [] x at = absurd (let lt = at.1 in omega (arith, lt))
-number_of (y ∷ ys) x (zero, lt, same) = (0, ap Some same)
-number_of (y ∷ ys) x (suc k, lt, same) = let more = number_of ys x (k, omega (arith, lt), same) in (suc more.0, more.1)
-
 -- ---- words of categories
 
 pub some_category : (cats : List Cat) (c : ℕ) (word : List ℕ) → IsCategoryWord cats c word → AnyByRecursion (λ name. IsSpelling name word) (category_names cats)

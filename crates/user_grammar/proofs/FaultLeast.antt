@@ -10,6 +10,7 @@ use Rattle.proof_lexer.specs.View.{token_view}
 use Rattle.user_grammar.specs.Fault.{IsToldFirst, rank}
 use Rattle.user_grammar.specs.Finding.{IsLeast, IsBefore, IsOneOf, IsEarlierOf, OfSome, Either, AtToken, IsFoundAt}
 use Rattle.user_grammar.specs.declared.fault_found.Found.{Found}
+use Rattle.binding_terms.proofs.Lists.{any_back, any_front, any_split}
 
 abbrev pub Family : Type 1
 Family = Code → PlainToken → List ℕ → Type 0
@@ -110,43 +111,14 @@ least_none P none = record { least = none }
 
 -- ---- members of a list
 
-pub any_left : {A : Type 0} (P : A → Type 0) (xs ys : List A) → AnyByRecursion P xs → AnyByRecursion P (xs ++ ys)
-any_left P [] ys any = absurd any
-any_left P (x ∷ xs) ys (inl is) = inl is
-any_left P (x ∷ xs) ys (inr any) = inr (any_left P xs ys any)
-
-pub any_right : {A : Type 0} (P : A → Type 0) (xs ys : List A) → AnyByRecursion P ys → AnyByRecursion P (xs ++ ys)
-any_right P [] ys any = any
-any_right P (x ∷ xs) ys any = inr (any_right P xs ys any)
-
-pub any_cases : {A : Type 0} (P : A → Type 0) (xs ys : List A) → AnyByRecursion P (xs ++ ys) → AnyByRecursion P xs ⊎ AnyByRecursion P ys
-any_cases P [] ys any = inr any
-any_cases P (x ∷ xs) ys (inl is) = inl (inl is)
-any_cases P (x ∷ xs) ys (inr any) = elim (any_cases P xs ys any) [ inl l ↦ inl (inr l) | inr r ↦ inr r ]
-
-pub contains_cons : {A : Type 0} (x y : A) (xs : List A) → Contains (x ∷ xs) y → (x ≡ y) ⊎ Contains xs y
-contains_cons x y xs is = elim (Contains-append_cases (x ∷ []) xs y is) [
-  | inl l ↦ elim (Contains-push_cases [] x y l) [ inl never ↦ absurd (omega (arith, never.1)) | inr same ↦ inl same ]
-  | inr r ↦ inr r
-]
-
-pub any_contained : {A : Type 0} (P : A → Type 0) (xs : List A) (y : A) → Contains xs y → P y → AnyByRecursion P xs
-any_contained P [] y is p = absurd (omega (arith, is.1))
-any_contained P (x ∷ xs) y is p = elim (contains_cons x y xs is) [ inl same ↦ inl (subst P (sym same) p) | inr more ↦ inr (any_contained P xs y more p) ]
-
-pub contained_any : {A : Type 0} (P : A → Type 0) (xs : List A) → AnyByRecursion P xs → (y : A) × Contains xs y × P y
-contained_any P [] any = absurd any
-contained_any P (x ∷ xs) (inl is) = (x, Contains-append_left (x ∷ []) xs x (Contains-push [] x), is)
-contained_any P (x ∷ xs) (inr any) = let more = contained_any P xs any in (more.0, Contains-append_right (x ∷ []) xs more.0 more.1, more.2)
-
 pub least_of_no_members : {A : Type 0} (F : A → Family) → IsLeast (OfSome F []) None
 least_of_no_members F = record { least = λ o t w x. x.some }
 
 pub least_push : {A : Type 0} (F : A → Family) (xs : List A) (x : A) (a b r : Option Found) → IsEarlierOf a b r
     → IsLeast (OfSome F xs) a → IsLeast (F x) b → IsLeast (OfSome F (xs ++ x ∷ [])) r
 least_push F xs x a b r is all one = least_same (Either (OfSome F xs) (F x)) (OfSome F (xs ++ x ∷ [])) r
-    (λ c t d f. record { some = elim f [ inl l ↦ any_left (λ m. F m c t d) xs (x ∷ []) l.some | inr y ↦ any_right (λ m. F m c t d) xs (x ∷ []) (inl y) ] })
-    (λ c t d f. elim (any_cases (λ m. F m c t d) xs (x ∷ []) f.some) [ inl l ↦ inl (record { some = l }) | inr m ↦ elim m [ inl y ↦ inr y | inr never ↦ absurd never ] ])
+    (λ c t d f. record { some = elim f [ inl l ↦ any_front (λ m. F m c t d) xs (x ∷ []) l.some | inr y ↦ any_back (λ m. F m c t d) xs (x ∷ []) (inl y) ] })
+    (λ c t d f. elim (any_split (λ m. F m c t d) xs (x ∷ []) f.some) [ inl l ↦ inl (record { some = l }) | inr m ↦ elim m [ inl y ↦ inr y | inr never ↦ absurd never ] ])
     (least_of_two (OfSome F xs) (F x) a b r is all one)
 
 -- one member more is looked at
@@ -210,10 +182,6 @@ least_token_more c P Q t f a r kept cases new found is all = least_same (Either 
 pub least_token_same : (c : Code) (P Q : PlainToken → Type 0) (r : Option Found) → ((s : PlainToken) → P s → Q s) → ((s : PlainToken) → Q s → P s)
     → IsLeast (AtToken c P) r → IsLeast (AtToken c Q) r
 least_token_same c P Q r there back = least_same (AtToken c P) (AtToken c Q) r (λ o s d x. (x.0, x.1, there s x.2)) (λ o s d x. (x.0, x.1, back s x.2))
-
--- what is so of all that was looked at
-pub whole : {X : Type 0} (P : List X → Type 0) (xs : List X) (i : ℕ) → length xs ≤ i → P (take i xs) → P xs
-whole P xs i le p = subst P (take_all i xs le) p
 
 -- one member more is looked at, which owns memory
 pub least_more_item : {X A : Type 0} (view : X → A) (F : A → Family) (xs : List X) (i : ℕ) (x : X) (a b r : Option Found) → i < length xs → x ≡ get_or xs i x → IsEarlierOf a b r

@@ -10,22 +10,8 @@ use Rattle.user_grammar.specs.File.{WrittenCategory}
 use Rattle.user_grammar.specs.Fault.{AreVariables, no_variables, a_word, a_production, SpellsVariable, DeclaresVariable}
 use Rattle.user_grammar.specs.Finding.{all_forms, written_view}
 use Rattle.user_grammar.specs.declared.fault_lists.Written.{Written}
-use Rattle.user_grammar.proofs.FaultLeast.{any_left, any_right, any_cases}
 use Rattle.user_grammar.proofs.FaultDeclared.{variables_append}
-
--- none is so where not some are
-none_of : {A : Type 0} (P : A → Type 0) (xs : List A) → (AnyByRecursion P xs → ⊥) → AllByRecursion (λ x. P x → ⊥) xs
-none_of P [] not_any = tt
-none_of P (x ∷ xs) not_any = ((λ p. not_any (inl p)), none_of P xs (λ any. not_any (inr any)))
-
-not_some : {A : Type 0} (P : A → Type 0) (xs : List A) → AllByRecursion (λ x. P x → ⊥) xs → AnyByRecursion P xs → ⊥
-not_some P [] all any = any
-not_some P (x ∷ xs) all (inl p) = all.0 p
-not_some P (x ∷ xs) all (inr any) = not_some P xs all.1 any
-
-pub none_where_not : {A : Type 0} (P : A → Type 0) (xs : List A) (r : Bool) → (IsTrue r ↔ AnyByRecursion P xs) → IsTrue (not r) ↔ AllByRecursion (λ x. P x → ⊥) xs
-none_where_not P xs true is = ((λ t. (let never : false ≡ true = t in cc)), (λ all. absurd (not_some P xs all (is.0 refl))))
-none_where_not P xs false is = ((λ t. none_of P xs (λ any. (let never : false ≡ true = is.1 any in cc))), (λ all. refl))
+use Rattle.binding_terms.proofs.Lists.{any_back, any_front, any_split}
 
 -- a word that is so
 pub word_and : {K : Type 0} (P : List ℕ → Type 0) (r : Bool) (bytes text : List ℕ) → bytes ≡ text → K → (IsTrue r ↔ P bytes) → IsTrue r ↔ (K × P text)
@@ -56,12 +42,12 @@ spelled_back portions w (a_production none more) (inr any) = spelled_back portio
 
 flat_there : (P : List PlainToken → Type 0) (cats : List WrittenCategory) → AnyByRecursion P (all_forms cats) → AnyByRecursion (λ (c : WrittenCategory). AnyByRecursion P c.forms) cats
 flat_there P [] any = any
-flat_there P (c ∷ cats) any = elim (any_cases P c.forms (all_forms cats) any) [ inl l ↦ inl l | inr r ↦ inr (flat_there P cats r) ]
+flat_there P (c ∷ cats) any = elim (any_split P c.forms (all_forms cats) any) [ inl l ↦ inl l | inr r ↦ inr (flat_there P cats r) ]
 
 flat_back : (P : List PlainToken → Type 0) (cats : List WrittenCategory) → AnyByRecursion (λ (c : WrittenCategory). AnyByRecursion P c.forms) cats → AnyByRecursion P (all_forms cats)
 flat_back P [] any = any
-flat_back P (c ∷ cats) (inl l) = any_left P c.forms (all_forms cats) l
-flat_back P (c ∷ cats) (inr r) = any_right P c.forms (all_forms cats) (flat_back P cats r)
+flat_back P (c ∷ cats) (inl l) = any_front P c.forms (all_forms cats) l
+flat_back P (c ∷ cats) (inr r) = any_back P c.forms (all_forms cats) (flat_back P cats r)
 
 -- a word spells one of the variables where it spells the variable of a form of a category
 pub spells_some_variable : (portions : List PlainPortion) (cats : List WrittenCategory) (tokens : List PlainToken) (w : List ℕ) → AreVariables portions (all_forms cats) tokens

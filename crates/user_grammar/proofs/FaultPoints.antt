@@ -8,7 +8,8 @@ use Rattle.outline_reader.specs.Plain.{PlainPortion, plain_form}
 use Rattle.user_grammar.specs.Fault.{Place, outside, behind_slot, before_word, behind_word, IsPlaceBehind, HasNoBrackets}
 use Rattle.user_grammar.specs.FindingContexts.{AllPoints, OpensAt, OpensNone}
 use Rattle.user_grammar.proofs.FaultPlaces.{place_once}
-use Rattle.user_grammar.proofs.FaultTokens.{less_or_same, same_split, form_split, split_near}
+use Rattle.user_grammar.proofs.FaultTokens.{less_or_same, form_split, split_near}
+use Rattle.binding_terms.proofs.Lists.{same_split_behind}
 
 module _ (portions : List PlainPortion) (Q : List PlainToken → Place → PlainToken → Type 0) where
   pub no_points : (form : List PlainToken) → AllPoints portions Q form 0
@@ -20,7 +21,7 @@ module _ (portions : List PlainPortion) (Q : List PlainToken → Place → Plain
     all = λ own more q s split' at' near. elim (less_or_same (length own) n near) [
       | inl lt ↦ all.all own more q s split' at' lt
       | inr e ↦ (
-          let same = same_split front t rest own s more (e ∙ sym len) (sym split ∙ split') in
+          let same = same_split_behind front t rest own s more (e ∙ sym len) (sym split ∙ split') in
           let where_is : q ≡ place = place_once portions (subst (λ ts. IsPlaceBehind portions ts q) same.0 at') at in
           subst (λ f. Q f q s) (sym same.0) (subst (λ p. Q front p s) (sym where_is) (subst (Q front place) (sym same.1) is))
           )

@@ -15,15 +15,11 @@ use Rattle.user_grammar.specs.Fault.{Place, outside, behind_slot, before_word, b
 use Rattle.user_grammar.specs.Finding.{IsLeast, IsFoundAt, IsEarlierOf, Either}
 use Rattle.user_grammar.specs.FindingPlaces.{AreBinders, IsWrongAt, HasCode, unknown, wrong, twice, AtPlace, AmongFirst, TokensOf}
 use Rattle.user_grammar.specs.declared.fault_found.Found.{Found}
-use Rattle.user_grammar.proofs.FaultLeast.{least_same, least_none, least_of_two, any_left, any_right}
-use Rattle.user_grammar.proofs.FaultDeclared.{split_last}
+use Rattle.user_grammar.proofs.FaultLeast.{least_same, least_none, least_of_two}
 use Rattle.user_grammar.proofs.FaultPlaces.{place_once}
+use Rattle.binding_terms.proofs.Lists.{any_back, any_front, nothing_before, same_split_behind, split_last}
 
 -- ---- binders
-
-nothing_before : {A : Type 0} (before : List A) (y : A) (after : List A) → [] ≡ before ++ y ∷ after → ⊥
-nothing_before [] y after e = cc
-nothing_before (b ∷ before) y after e = cc
 
 pub none_at_start : (portions : List PlainPortion) (w : List ℕ) → IsBinderOf portions [] w → ⊥
 none_at_start portions w is = nothing_before is.stands.stands.front is.token is.stands.stands.rest is.stands.stands.split
@@ -197,17 +193,6 @@ module _ (portions : List PlainPortion) (form front rest : List PlainToken) (pla
 pub less_or_same : (k n : ℕ) → k < n + 1 → (k < n) ⊎ (k ≡ n)
 less_or_same k n lt = grind (arith, lt)
 
--- two places with as much before them are one
-pub same_split : {A : Type 0} (front : List A) (t : A) (rest : List A) (own : List A) (s : A) (more : List A) → length own ≡ length front → front ++ t ∷ rest ≡ own ++ s ∷ more
-    → (own ≡ front) × (s ≡ t) × (more ≡ rest)
-same_split [] t rest [] s more len e = (refl, cc, cc)
-same_split [] t rest (x ∷ own) s more len e = absurd (omega (arith, len))
-same_split (y ∷ front) t rest [] s more len e = absurd (omega (arith, len))
-same_split (y ∷ front) t rest (x ∷ own) s more len e =
-    let head : y ≡ x = cc in let tail : front ++ t ∷ rest ≡ own ++ s ∷ more = cc in
-    let rec = same_split front t rest own s more (omega (arith, len)) tail in
-    (ap (λ z. z ∷ own) (sym head) ∙ ap (λ zs. y ∷ zs) rec.0, rec.1, rec.2)
-
 pub among_none : (portions : List PlainPortion) (form : List PlainToken) → IsLeast (AmongFirst portions form 0) None
 among_none portions form = least_none (AmongFirst portions form 0) (λ o s d x. omega (arith, x.near))
 
@@ -239,7 +224,7 @@ among_more portions form n front rest place t a b r split len at is all one = le
     (λ o s d x. elim (less_or_same (length x.front) n x.near) [
       | inl lt ↦ inl (record { front = x.front; rest = x.rest; place = x.place; split = x.split; is_place = x.is_place; near = lt; fault = x.fault })
       | inr e ↦ (
-          let same = same_split front t rest x.front s x.rest (e ∙ sym len) (sym split ∙ x.split) in
+          let same = same_split_behind front t rest x.front s x.rest (e ∙ sym len) (sym split ∙ x.split) in
           let where_is : x.place ≡ place = place_once portions (subst (λ ts. IsPlaceBehind portions ts x.place) same.0 x.is_place) at in
           inr (at_same portions form front rest x.front x.rest place x.place t s o s d same.0 same.1 same.2 where_is x.fault)
           )
@@ -286,23 +271,7 @@ form_whole portions xs i r le all = least_same (AmongFirst portions (plain_form 
     record { front = x.front; rest = x.rest; place = x.place; split = x.split; is_place = x.is_place; near = omega (arith, x.near, long, le); fault = x.fault })
     all
 
-pub rest_is : {X : Type 0} (xs : List X) (j : ℕ) → take (length xs - j) (drop j xs) ≡ drop j xs
-rest_is xs j = take_all (length xs - j) (drop j xs) (let long : length (drop j xs) ≡ length xs - j = length-drop j xs in omega (arith, long))
-
 -- ---- words in brackets
-
-any_turned : {A : Type 0} (P : A → Type 0) (xs : List A) → AnyByRecursion P xs → AnyByRecursion P (reverse xs)
-any_turned P [] any = absurd any
-any_turned P (x ∷ xs) any = subst (AnyByRecursion P) (sym (reverse-append (x ∷ []) xs)) (elim any [
-  | inl p ↦ any_right P (reverse xs) (x ∷ []) (inl p)
-  | inr m ↦ any_left P (reverse xs) (x ∷ []) (any_turned P xs m)
-])
-
-pub any_reverse : {A : Type 0} (P : A → Type 0) (xs : List A) (r : Bool) → (IsTrue r ↔ AnyByRecursion P xs) → IsTrue r ↔ AnyByRecursion P (reverse xs)
-any_reverse P xs r is = (
-  (λ t. any_turned P xs (is.0 t)),
-  (λ any. is.1 (subst (AnyByRecursion P) (reverse-reverse xs) (any_turned P (reverse xs) any))),
-)
 
 pub pushed : {X : Type 0} (f : X → List ℕ) (old new : List X) (x : X) (text : List ℕ) → new ≡ old ++ x ∷ [] → f x ≡ text → text ∷ reverse (map f old) ≡ reverse (map f new)
 pushed f old new x text e same =

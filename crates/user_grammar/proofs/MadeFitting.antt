@@ -21,17 +21,16 @@ use Rattle.user_grammar.specs.Production.{IsVariable, IsProduction}
 use Rattle.user_grammar.specs.Grammar.{AreForms, no_forms, variable, production, AreProductions}
 use Rattle.user_grammar.specs.Fault.{category_texts, IsEmptyForm, IsContextCategory, bad_context, HasNoFault}
 use Rattle.user_grammar.specs.MadeItems.{IsFirstVariable, IsMadeCategory}
-use Rattle.user_grammar.proofs.Spellings.{all_right}
 use Rattle.user_grammar.proofs.OneReading.{one_production}
 use Rattle.user_grammar.proofs.MadeParts.{AreNamesOf}
 use Rattle.user_grammar.proofs.MadeStands.{FormStands, form_stands}
 use Rattle.user_grammar.proofs.MadeContexts.{empty_items, empty_tokens}
 use Rattle.user_grammar.proofs.MadeEntries.{AreContexts}
 use Rattle.user_grammar.proofs.MadeDecided.{Decided, among_decided}
-use Rattle.user_grammar.proofs.MadeForms.{prod_fits, at_contained}
-use Rattle.user_grammar.proofs.MadeKnown.{contained, sound_form}
-use Rattle.user_grammar.proofs.MadeNames.{all_joined}
+use Rattle.user_grammar.proofs.MadeForms.{prod_fits}
+use Rattle.user_grammar.proofs.MadeKnown.{sound_form}
 use Rattle.user_grammar.proofs.MadeWords.{words_of}
+use Rattle.binding_terms.proofs.Lists.{all_append, all_contained, all_in_itself, all_right}
 
 got_at : (before : List Cat) (cat : Cat) (after : List Cat) → slice_get (before ++ cat ∷ after) (length before) ≡ Some cat
 got_at [] cat after = refl
@@ -191,10 +190,10 @@ module _ (portions : List PlainPortion) (no_fault : HasNoFault portions) (assume
   all_prods_fit fronts (w ∷ some) [] c ps whole number made_some there are = absurd made_some
   all_prods_fit fronts (w ∷ some) (other ∷ others) c ps whole number made_some there are =
       let at = at_front fronts other others c whole number in
-      let first = forms_fit w there.0 c other at made_some.0 are.3 (contained w.forms) in
+      let first = forms_fit w there.0 c other at made_some.0 are.3 (all_in_itself w.forms) in
       let longer : length (fronts ++ other ∷ []) ≡ suc c = length-append fronts (other ∷ []) ∙ (omega (arith, number)) in
       let rest = all_prods_fit (fronts ++ other ∷ []) some others (suc c) are.1 (whole ∙ sym (append_assoc fronts (other ∷ []) others)) longer made_some.1 there.1 are.4 in
-      subst (AllByRecursion (ProdFits sig)) (sym are.2) (all_joined (ProdFits sig) are.0 are.1 first rest)
+      subst (AllByRecursion (ProdFits sig)) (sym are.2) (all_append (ProdFits sig) are.0 are.1 first rest)
 
   no_first_variable : (texts : List (List ℕ)) (forms : List (List PlainToken)) (var : Option (List ℕ)) → AllByRecursion (λ form. IsVariable texts (listed portions) form → ⊥) forms
       → IsFirstVariable texts (listed portions) forms var → var ≡ None
@@ -219,7 +218,7 @@ module _ (portions : List PlainPortion) (no_fault : HasNoFault portions) (assume
             let no_vars = subst (λ (ns : List (List ℕ)). AllByRecursion (λ form. IsVariable ns (listed portions) form → ⊥) w.forms) same_names context.no_variable in (
               no_first_variable (category_texts portions) w.forms cat.var context.no_variable made_here.variable,
               count_at c 0 before w after vars prods (omega (arith, number)) (subst (λ (ws : List WrittenCategory). AreProductions cats (listed portions) 0 ws vars prods) whole are_all)
-                  (λ var first are. one_filled w there c cat at made_here are (contained w.forms) no_vars one.0 one.1 one.2 one.3 one.5 one.4 one.6),
+                  (λ var first are. one_filled w there c cat at made_here are (all_in_itself w.forms) no_vars one.0 one.1 one.2 one.3 one.5 one.4 one.6),
             )
 
     all_cats_fit : (fronts : List Cat) (before some : List WrittenCategory) (others : List Cat) (c : ℕ) → cats ≡ fronts ++ others → length fronts ≡ c
@@ -238,8 +237,8 @@ module _ (portions : List PlainPortion) (no_fault : HasNoFault portions) (assume
 
   pub signature_fits : category_texts portions ≡ category_names cats → AreProductions cats (listed portions) 0 (categories portions) (map (λ (k : Cat). k.var) cats) prods → Fits sig
   signature_fits same are = record {
-    prods = all_prods_fit [] (categories portions) cats 0 prods refl refl made (contained (categories portions)) are;
-    cats = all_cats_fit same (map (λ (k : Cat). k.var) cats) are [] [] (categories portions) cats 0 refl refl refl refl made (contained (categories portions));
+    prods = all_prods_fit [] (categories portions) cats 0 prods refl refl made (all_in_itself (categories portions)) are;
+    cats = all_cats_fit same (map (λ (k : Cat). k.var) cats) are [] [] (categories portions) cats 0 refl refl refl refl made (all_in_itself (categories portions));
   }
 
 -- nothing says that the categories of contexts are not as they should be
@@ -256,5 +255,5 @@ collected portions no_fault (v ∷ some) there refuse = by_case (among_decided (
 
 pub contexts_stand : (portions : List PlainPortion) → HasNoFault portions → (AreContexts portions (assumed_texts portions) → ⊥) → ⊥
 contexts_stand portions no_fault refuse =
-    collected portions no_fault (categories portions) (contained (categories portions))
-    (λ all. refuse (λ v there among. at_contained (λ (u : WrittenCategory). IsAmong (assumed_texts portions) u.name.text → IsContextCategory portions u) (categories portions) v all there among))
+    collected portions no_fault (categories portions) (all_in_itself (categories portions))
+    (λ all. refuse (λ v there among. all_contained (λ (u : WrittenCategory). IsAmong (assumed_texts portions) u.name.text → IsContextCategory portions u) (categories portions) v all there among))

@@ -19,17 +19,8 @@ use Rattle.user_grammar.proofs.MadeStands.{FormStands}
 use Rattle.user_grammar.proofs.MadeFits.{words_count, places_fit, binders_vary, items_some, one_slot}
 use Rattle.user_grammar.proofs.MadeContexts.{slots_are, empty_items}
 use Rattle.user_grammar.proofs.MadeEntries.{AreContexts, plain_or_assumed, entry_items, later_slots, not_in_front}
-use Rattle.user_grammar.proofs.MadeKnown.{contained}
 use Rattle.user_grammar.proofs.MadeWords.{words_of}
-
-at_place : {X : Type 0} (P : X → Type 0) (xs : List X) (x : X) (k : ℕ) → AllByRecursion P xs → k < length xs → slice_index_or xs k x ≡ x → P x
-at_place P [] x k all lt same = absurd (omega arith)
-at_place P (y ∷ ys) x zero all lt same = subst P same all.0
-at_place P (y ∷ ys) x (suc k) all lt same = at_place P ys x k all.1 (omega (arith, lt)) same
-
--- what holds of all holds of one of them
-pub at_contained : {X : Type 0} (P : X → Type 0) (xs : List X) (x : X) → AllByRecursion P xs → Contains xs x → P x
-at_contained P xs x all there = at_place P xs x there.0 all there.1 there.2
+use Rattle.binding_terms.proofs.Lists.{all_contained, all_in_itself}
 
 module _ (portions : List PlainPortion) (no_fault : HasNoFault portions) (assumed : List (List ℕ)) (contexts : AreContexts portions assumed)
     (cats : List Cat) (made : AllZip (IsMadeCategory (category_texts portions) (listed portions) assumed) (categories portions) cats)
@@ -50,7 +41,7 @@ module _ (portions : List PlainPortion) (no_fault : HasNoFault portions) (assume
     -- a slot is of a plain category, where one of contexts would stand in front of its own
     plain_slot : (token : PlainToken) (d : ℕ) (at : StandsOutside portions form token) → IsSlotWord portions token → IsCategoryWord cats d token.text
         → ((v : WrittenCategory) → IsAmong assumed v.name.text → w.name.text ≡ v.name.text → at.stands.front ≡ [] → ⊥) → IsPlain sig d
-    plain_slot token d at is_slot is never = by_case (plain_or_assumed portions assumed (categories portions) cats d token.text made (contained (categories portions)) is)
+    plain_slot token d at is_slot is never = by_case (plain_or_assumed portions assumed (categories portions) cats d token.text made (all_in_itself (categories portions)) is)
       where
         by_case : MatchOption (slice_get cats d) ⊥ (λ (cat : Cat). cat.context ≡ false)
             ⊎ ((v : WrittenCategory) × Contains (categories portions) v × IsSpelling v.name.text token.text × IsAmong assumed v.name.text) → IsPlain sig d
@@ -90,7 +81,7 @@ module _ (portions : List PlainPortion) (no_fault : HasNoFault portions) (assume
             → MatchBool b (IsContextForm sig stands.prod) (AllByRecursion (λ s. IsPlain sig s.cat) (slots stands.prod.items))
         by_mark true is back =
             let among = subst (IsAmong assumed) made_here.category.name (is refl) in
-            context_form (at_contained (λ (f : List PlainToken). IsEmptyForm portions f ⊎ IsEntryForm portions w f) w.forms form (contexts w there among).others here)
+            context_form (all_contained (λ (f : List PlainToken). IsEmptyForm portions f ⊎ IsEntryForm portions w f) w.forms form (contexts w there among).others here)
         by_mark false is back =
             all_plain (λ among. (let never : false ≡ true = back (subst (IsAmong assumed) (sym made_here.category.name) among) in cc))
 

@@ -23,17 +23,7 @@ use Rattle.user_grammar.proofs.MadeNames.{variables_there}
 use Rattle.user_grammar.proofs.MadeParts.{AreNamesOf, IsSound}
 use Rattle.user_grammar.proofs.MadeStands.{form_stands}
 use Rattle.user_grammar.proofs.MadeTold.{first_token}
-
--- each element of a list is one of it
-contained_behind : {X : Type 0} (front xs : List X) → AllByRecursion (Contains (front ++ xs)) xs
-contained_behind front [] = tt
-contained_behind {X = X} front (x ∷ xs) = (
-  Contains-append_right front (x ∷ xs) x (0, (omega arith), refl),
-  subst (λ (all : List X). AllByRecursion (Contains all) xs) (append_assoc front (x ∷ []) xs) (contained_behind (front ++ x ∷ []) xs),
-)
-
-pub contained : {X : Type 0} (xs : List X) → AllByRecursion (Contains xs) xs
-contained xs = contained_behind [] xs
+use Rattle.binding_terms.proofs.Lists.{all_in_itself}
 
 -- ---- words
 
@@ -154,8 +144,8 @@ module _ (portions : List PlainPortion) where
               (let found = any_category cats token.text (subst (AnyByRecursion (λ name. IsSpelling name token.text)) same_names is.1) in (record { 0 = found.0 }, found.1));
           word_slot = λ token c kind is. (kind, subst (AnyByRecursion (λ name. IsSpelling name token.text)) (sym same_names) (category_any cats c token.text is));
           binder_word = λ token is.
-              (let found = any_binder (categories portions) cats token.text made (contained (categories portions)) is.1 in (record { 0 = found.0 }, found.1));
-          word_binder = λ token c kind is. (kind, binder_any (categories portions) cats c token.text made (contained (categories portions)) is);
+              (let found = any_binder (categories portions) cats token.text made (all_in_itself (categories portions)) is.1 in (record { 0 = found.0 }, found.1));
+          word_binder = λ token c kind is. (kind, binder_any (categories portions) cats c token.text made (all_in_itself (categories portions)) is);
         }
 
         module _ (apart : AllApart (names cats)) where
@@ -185,9 +175,9 @@ module _ (portions : List PlainPortion) where
           productions_there (w ∷ some) [] c made_some there = absurd made_some
           productions_there (w ∷ some) (other ∷ others) c made_some there =
               let vars = variables_there portions w.forms in
-              let first = forms_there w c there.0 other.var vars.1 (one_variable w vars.0 other.var there.0 vars.1 made_some.0.variable) (contained w.forms) in
+              let first = forms_there w c there.0 other.var vars.1 (one_variable w vars.0 other.var there.0 vars.1 made_some.0.variable) (all_in_itself w.forms) in
               let rest = productions_there some others (suc c) made_some.1 there.1 in
               (first.0 ++ rest.0, (first.0, rest.0, refl, first.1, rest.1))
 
           pub all_productions : (prods : List Prod) × AreProductions cats (listed portions) 0 (categories portions) (map (λ (cat : Cat). cat.var) cats) prods
-          all_productions = productions_there (categories portions) cats 0 made (contained (categories portions))
+          all_productions = productions_there (categories portions) cats 0 made (all_in_itself (categories portions))

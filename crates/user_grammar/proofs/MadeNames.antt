@@ -11,15 +11,7 @@ use Rattle.user_grammar.specs.File.{listed}
 use Rattle.user_grammar.specs.Names.{names_if, names, category_names, variable_names, AreApart, AllApart}
 use Rattle.user_grammar.specs.Fault.{Sort, a_terminal, a_category, a_variable, Declared, declared_as, IsSpelledBy, category_texts, DeclaresVariable, AreVariables, no_variables, a_word, a_production, DeclaresHere, DeclareAll, common_spelling, duplicate, HasNoFault}
 use Rattle.user_grammar.proofs.MadeDecided.{Decided, variable_decided}
-use Rattle.user_grammar.proofs.Spellings.{all_left, all_right}
-
-pub all_joined : {X : Type 0} (P : X → Type 0) (xs ys : List X) → AllByRecursion P xs → AllByRecursion P ys → AllByRecursion P (xs ++ ys)
-all_joined P [] ys one other = other
-all_joined P (x ∷ xs) ys one other = (one.0, all_joined P xs ys one.1 other)
-
-pub all_also : {X : Type 0} (P Q : X → Type 0) (xs : List X) → ((x : X) → P x → Q x) → AllByRecursion P xs → AllByRecursion Q xs
-all_also P Q [] also all = tt
-all_also P Q (x ∷ xs) also all = (also x all.0, all_also P Q xs also all.1)
+use Rattle.binding_terms.proofs.Lists.{all_append, all_front, all_right}
 
 -- ---- names in text order
 
@@ -32,10 +24,10 @@ told_apart : (P : List ℕ → Type 0) (cats : List Cat) → AllByRecursion P (t
 told_apart P [] all = (tt, tt)
 told_apart P (cat ∷ cats) all =
     let rest = told_apart P cats (all_right P (names_if cat.var) (told_names cats) all.1) in
-    ((all.0, rest.0), all_joined P (names_if cat.var) (variable_names cats) (all_left P (names_if cat.var) (told_names cats) all.1) rest.1)
+    ((all.0, rest.0), all_append P (names_if cat.var) (variable_names cats) (all_front P (names_if cat.var) (told_names cats) all.1) rest.1)
 
 pub told_all : (P : List ℕ → Type 0) (cats : List Cat) → AllByRecursion P (told_names cats) → AllByRecursion P (names cats)
-told_all P cats all = let parts = told_apart P cats all in all_joined P (category_names cats) (variable_names cats) parts.0 parts.1
+told_all P cats all = let parts = told_apart P cats all in all_append P (category_names cats) (variable_names cats) parts.0 parts.1
 
 other_way : (one other : List ℕ) → AreApart one other → AreApart other one
 other_way one other apart = record { nothing_common = λ word spells also. apart.nothing_common word also spells }
@@ -55,7 +47,7 @@ across_one name (one ∷ some) others apart across = ((other_way name one apart.
 joined_apart : (some others : List (List ℕ)) → AllApart some → AllApart others → Across some others → AllApart (some ++ others)
 joined_apart [] others one other across = other
 joined_apart (name ∷ some) others one other across =
-    (all_joined (AreApart name) some others one.0 across.0, joined_apart some others one.1 other across.1)
+    (all_append (AreApart name) some others one.0 across.0, joined_apart some others one.1 other across.1)
 
 -- the parts of the names in text order
 pub record PartsApart (cats : List Cat) : Type 0 where

@@ -14,7 +14,7 @@ use Rattle.user_grammar.specs.MadeItems.{IsBinderSpelling, AreBracketsFrom}
 use Rattle.user_grammar.specs.declared.made_tokens.Spot.{Spot}
 use Rattle.user_grammar.specs.declared.made_tokens.Spot.TheVariants.{Outside, BeforeWord, BehindWord}
 use Rattle.user_grammar.proofs.MadeDecided.{Decided, not_refused, numbers_decided, mark_decided, terminal_decided}
-use Rattle.user_grammar.proofs.MadeNames.{all_joined}
+use Rattle.binding_terms.proofs.Lists.{all_append}
 
 -- an item, before its binders have numbers
 pub data Part : Type 0 where
@@ -105,7 +105,7 @@ module _ (portions : List PlainPortion) (cats : List Cat) (names : AreNamesOf po
     mark = unclosed.mark;
     since = unclosed.since ++ token ∷ [];
     split = unclosed.split ∙ sym (append_assoc unclosed.since (token ∷ []) rest);
-    none = all_joined (λ (t : PlainToken). IsMark 93 t → ⊥) unclosed.since (token ∷ []) unclosed.none (not, tt);
+    none = all_append (λ (t : PlainToken). IsMark 93 t → ⊥) unclosed.since (token ∷ []) unclosed.none (not, tt);
   }
 
   word_closes_nothing : (token : PlainToken) → token.kind ≡ 0 → IsMark 93 token → ⊥

@@ -25,6 +25,7 @@ use Rattle.user_grammar.specs.declared.made_tokens.Meaning.TheVariants as meanin
 use Rattle.user_grammar.specs.declared.made_tokens.Spot.{Spot}
 use Rattle.user_grammar.specs.declared.made_tokens.Spot.TheVariants.{Outside, BeforeWord, BehindWord}
 use Rattle.user_grammar.proofs.Spellings.{one_category, one_variable, not_both, no_category, no_variable, apart_left, apart_right}
+use Rattle.binding_terms.proofs.Lists.{empty_within_one, zip_append}
 
 -- ---- words
 
@@ -280,11 +281,6 @@ pushed_word g old new x text words left pushed is same =
     ap (λ xs. map g xs ++ left) pushed ∙ ap (λ ws. ws ++ left) (map-append g old (x ∷ [])) ∙ append_assoc (map g old) (g x ∷ []) left
     ∙ ap (λ (w : List ℕ). map g old ++ w ∷ left) is ∙ ap (λ ws. map g old ++ ws) (sym same)
 
--- one item more
-pub pushed_item : {X : Type 0} (old new : List X) (x y : X) (xs left : List X) → new ≡ old ++ x ∷ [] → x ≡ y → xs ≡ y ∷ left → new ++ left ≡ old ++ xs
-pushed_item old new x y xs left pushed is same =
-    ap (λ zs. zs ++ left) pushed ∙ append_assoc old (x ∷ []) left ∙ ap (λ z. old ++ z ∷ left) is ∙ ap (λ zs. old ++ zs) (sym same)
-
 -- the forms that are left, one further
 pub forms_more : {X W : Type 0} (f : W → List PlainToken) (g : X → W) (xs : List X) (i : ℕ) (d : X) (cats : List Cat) (listed : List (List ℕ)) (c : ℕ) (old new all : List Prod)
     → i < length xs → (var : Option (List ℕ)) × (left : List Prod) × AreForms cats listed c var (map f (map g (drop i xs))) left × (old ++ left ≡ all)
@@ -316,22 +312,18 @@ category_more cats listed c w written (var ∷ vars) own old new are added = (
   ap (λ ps. ps ++ are.1) (added var are.0 are.3) ∙ append_assoc old are.0 are.1 ∙ ap (λ ps. old ++ ps) (sym are.2),
 )
 
-none_left : {X : Type 0} (xs : List X) → length xs < 1 → xs ≡ []
-none_left [] lt = refl
-none_left (x ∷ xs) lt = absurd (omega arith)
-
 -- no words are left
 pub words_over : {X : Type 0} (f : X → PlainToken) (xs : List X) (cats : List Cat) (listed own made words : List (List ℕ)) → length xs < 1
     → (items : List Item) × (left : List (List ℕ)) × AreItems cats listed own (map f xs) items left × (made ++ left ≡ words) → made ≡ words
 words_over {X = X} f xs cats listed own made words lt stands =
-    let nothing = no_more (subst (λ (ts : List X). AreItems cats listed own (map f ts) stands.0 stands.1) (none_left xs lt) stands.2) in
+    let nothing = no_more (subst (λ (ts : List X). AreItems cats listed own (map f ts) stands.0 stands.1) (empty_within_one xs lt) stands.2) in
     sym (append-nil made) ∙ ap (λ (ws : List (List ℕ)). made ++ ws) (sym nothing.1) ∙ stands.3
 
 -- no items are left
 pub items_over : {X : Type 0} (f : X → PlainToken) (xs : List X) (cats : List Cat) (listed own : List (List ℕ)) (made items : List Item) → length xs < 1
     → (left : List Item) × (words : List (List ℕ)) × AreItems cats listed own (map f xs) left words × (made ++ left ≡ items) → made ≡ items
 items_over {X = X} f xs cats listed own made items lt stands =
-    let nothing = no_more (subst (λ (ts : List X). AreItems cats listed own (map f ts) stands.0 stands.1) (none_left xs lt) stands.2) in
+    let nothing = no_more (subst (λ (ts : List X). AreItems cats listed own (map f ts) stands.0 stands.1) (empty_within_one xs lt) stands.2) in
     sym (append-nil made) ∙ ap (λ (is : List Item). made ++ is) (sym nothing.0) ∙ stands.3
 
 -- a form that was found to be none is no variable
@@ -340,12 +332,6 @@ pub found_none : (r : Bool) (cats : List Cat) (texts listed : List (List ℕ)) (
 found_none r cats texts listed form fails tells same is =
     let holds : r ≡ true = tells.1 (subst (λ ns. IsVariable ns listed form) (sym same) is) in
     let never : false ≡ true = sym fails ∙ holds in absurd cc
-
-zip_joined : {Y Z : Type 0} (R : Y → Z → Type 0) (ys us : List Y) (zs vs : List Z) → AllZip R ys zs → AllZip R us vs → AllZip R (ys ++ us) (zs ++ vs)
-zip_joined R [] us [] vs zip more = more
-zip_joined R [] us (z ∷ zs) vs zip more = absurd zip
-zip_joined R (y ∷ ys) us [] vs zip more = absurd zip
-zip_joined R (y ∷ ys) us (z ∷ zs) vs zip more = (zip.0, zip_joined R ys us zs vs zip.1 more)
 
 -- what is made of one portion more
 pub zip_portion : {Z : Type 0} (R : WrittenCategory → Z → Type 0) (portions : List Portion) (i : ℕ) (item : Portion) (old new own : List Z) → i < length portions → item ≡ get_or portions i item
@@ -360,4 +346,4 @@ zip_portion {Z = Z} R portions i item old new own lt is zip made more =
     ∙ ap (λ (ws : List WrittenCategory). categories (plains (take i portions)) ++ ws) (append-nil (category_in (plain_portion (portion_view item)))) in
     subst (λ (ws : List WrittenCategory). AllZip R ws new) (sym all)
     (subst (λ (zs : List Z). AllZip R (categories (plains (take i portions)) ++ category_in (plain_portion (portion_view item))) zs) (sym made)
-    (zip_joined R (categories (plains (take i portions))) (category_in (plain_portion (portion_view item))) old own zip more))
+    (zip_append R (categories (plains (take i portions))) (category_in (plain_portion (portion_view item))) old own zip more))

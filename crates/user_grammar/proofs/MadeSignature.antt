@@ -17,12 +17,12 @@ use Rattle.user_grammar.specs.Laws.{FaultlessFilesHaveASignature}
 use Rattle.user_grammar.specs.MadeItems.{IsFirstVariable, IsMadeCategory}
 use Rattle.user_grammar.proofs.MadeDecided.{Decided, not_refused, among_decided, variable_decided}
 use Rattle.user_grammar.proofs.MadeCategories.{names_written}
-use Rattle.user_grammar.proofs.MadeNames.{all_joined}
 use Rattle.user_grammar.proofs.MadeTold.{made_names}
-use Rattle.user_grammar.proofs.MadeKnown.{contained, are_categories, known_names, all_productions}
+use Rattle.user_grammar.proofs.MadeKnown.{are_categories, known_names, all_productions}
 use Rattle.user_grammar.proofs.FitsDecided.{fits_decided}
 use Rattle.user_grammar.proofs.Spellings.{apart_left, apart_right, one_category, one_variable}
 use Rattle.user_grammar.proofs.MadeFitting.{signature_fits, contexts_stand}
+use Rattle.binding_terms.proofs.Lists.{all_append, all_in_itself}
 
 -- ---- categories
 
@@ -81,7 +81,7 @@ module _ (portions : List PlainPortion) (no_fault : HasNoFault portions) where
   assumed_there : (some : List PlainPortion) → AllByRecursion (Contains portions) some → AllByRecursion (IsAmong (category_texts portions)) (assumed some)
   assumed_there [] there = tt
   assumed_there (portion ∷ some) there =
-      all_joined (IsAmong (category_texts portions)) (assumed_in portion) (assumed some) (assumed_here portion there.0) (assumed_there some there.1)
+      all_append (IsAmong (category_texts portions)) (assumed_in portion) (assumed some) (assumed_here portion there.0) (assumed_there some there.1)
 
   -- the signature is there, and nothing says that it does not fit
   pub signature_there : (sig : Signature) × IsWritten portions sig × ((Fits sig → ⊥) → ⊥)
@@ -97,7 +97,7 @@ module _ (portions : List PlainPortion) (no_fault : HasNoFault portions) where
         sig,
         record {
           cats = are;
-          assumed = subst (λ ns. AllByRecursion (IsAmong ns) (assumed portions)) same (assumed_there portions (contained portions));
+          assumed = subst (λ ns. AllByRecursion (IsAmong ns) (assumed portions)) same (assumed_there portions (all_in_itself portions));
           names = named;
           prods = prods.1;
         },

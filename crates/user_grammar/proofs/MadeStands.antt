@@ -14,9 +14,9 @@ use Rattle.user_grammar.specs.File.{listed}
 use Rattle.user_grammar.specs.Names.{names_if, names, category_names, variable_names, IsAmong, IsCategoryWord, IsNoSpelling, AllApart}
 use Rattle.user_grammar.specs.Production.{AreNumbers, AreItems, no_items, terminal, binder, slot, IsProduction}
 use Rattle.user_grammar.specs.MadeItems.{IsBinderSpelling}
-use Rattle.user_grammar.proofs.MadeNames.{all_joined}
 use Rattle.user_grammar.proofs.MadeParts.{Part, itself, bound_as, part_of, AreNamesOf, IsSound, Parts, no_parts, terminal_part, binder_part, slot_part, parts_of_form}
 use Rattle.user_grammar.proofs.MadeWords.{words_of, words_differ, bound_among}
+use Rattle.binding_terms.proofs.Lists.{all_append}
 
 -- ---- numbers and spellings
 
@@ -37,7 +37,7 @@ no_category_name (cat ∷ cats) word not = (not 0, no_category_name cats word (�
 no_variable_name : (cats : List Cat) (word : List ℕ) → ((c : ℕ) → IsBinderSpelling cats c word → ⊥) → IsNoSpelling (variable_names cats) word
 no_variable_name [] word not = tt
 no_variable_name (cat ∷ cats) word not =
-    all_joined (λ (name : List ℕ). IsSpelling name word → ⊥) (names_if cat.var) (variable_names cats) (own cat.var (not 0)) (no_variable_name cats word (λ c is. not (suc c) is))
+    all_append (λ (name : List ℕ). IsSpelling name word → ⊥) (names_if cat.var) (variable_names cats) (own cat.var (not 0)) (no_variable_name cats word (λ c is. not (suc c) is))
   where
     own : (var : Option (List ℕ)) → (MatchOption var ⊥ (λ name. IsSpelling name word) → ⊥) → AllByRecursion (λ (name : List ℕ). IsSpelling name word → ⊥) (names_if var)
     own None fails = tt
@@ -45,7 +45,7 @@ no_variable_name (cat ∷ cats) word not =
 
 no_name_of : (cats : List Cat) (word : List ℕ) → ((c : ℕ) → IsCategoryWord cats c word → ⊥) → ((c : ℕ) → IsBinderSpelling cats c word → ⊥) → IsNoSpelling (names cats) word
 no_name_of cats word no_category no_binder =
-    all_joined (λ (name : List ℕ). IsSpelling name word → ⊥) (category_names cats) (variable_names cats) (no_category_name cats word no_category) (no_variable_name cats word no_binder)
+    all_append (λ (name : List ℕ). IsSpelling name word → ⊥) (category_names cats) (variable_names cats) (no_category_name cats word no_category) (no_variable_name cats word no_binder)
 
 -- ---- items
 

@@ -10,8 +10,8 @@ use Rattle.user_grammar.specs.Names.{names_if, names, IsNoSpelling, AreApart, Al
 use Rattle.user_grammar.specs.Production.{IsVariable}
 use Rattle.user_grammar.specs.Fault.{Sort, a_terminal, a_category, a_variable, Declared, declared_as, category_texts, DeclaresVariable, AreVariables, no_variables, a_word, a_production, DeclareAll, HasNoFault}
 use Rattle.user_grammar.specs.MadeItems.{IsFirstVariable, IsMadeCategory}
-use Rattle.user_grammar.proofs.Spellings.{all_left, all_right}
-use Rattle.user_grammar.proofs.MadeNames.{all_joined, all_also, told_names, told_all, names_apart, Differ, DiffersFrom, AllDeclaredDiffer, all_declared, declared_differ}
+use Rattle.user_grammar.proofs.MadeNames.{told_names, told_all, names_apart, Differ, DiffersFrom, AllDeclaredDiffer, all_declared, declared_differ}
+use Rattle.binding_terms.proofs.Lists.{all_also, all_append, all_front, all_right}
 
 -- what holds of the texts of names and of those of terminals
 abbrev pub Holds : (N L : List ℕ → Type 0) → Sort → List ℕ → Type 0
@@ -82,8 +82,8 @@ module _ (portions : List PlainPortion) (assumed : List (List ℕ)) where
       let here = subst (AllByRecursion (HoldsOf N L)) (declare.2 ∙ ap (λ (hs : List Declared). hs ++ declare.1) declare.3) all in
       let more = told N L rest declare.1 cats declare.4 zip (all_right (HoldsOf N L) (map (declared_as a_terminal) tokens) declare.1 here) in (
         more.0,
-        all_joined L (map (λ token. token.text) tokens) (listed rest)
-            (of_terminals N L tokens (all_left (HoldsOf N L) (map (declared_as a_terminal) tokens) declare.1 here)) more.1,
+        all_append L (map (λ token. token.text) tokens) (listed rest)
+            (of_terminals N L tokens (all_front (HoldsOf N L) (map (declared_as a_terminal) tokens) declare.1 here)) more.1,
       )
   told N L (category name mark forms ∷ rest) ds [] declare zip all = absurd zip
   told N L (category name mark forms ∷ rest) ds (cat ∷ cats) declare zip all =
@@ -92,8 +92,8 @@ module _ (portions : List PlainPortion) (assumed : List (List ℕ)) where
       let more = told N L rest declare.1 cats declare.4 zip.1 (all_right (HoldsOf N L) (map (declared_as a_variable) vars) declare.1 here.1) in (
         (
           subst N (sym zip.0.category.name) here.0,
-          all_joined N (names_if cat.var) (told_names cats)
-              (of_variable N L forms vars cat.var declare.3.1 zip.0.variable (all_left (HoldsOf N L) (map (declared_as a_variable) vars) declare.1 here.1)) more.0,
+          all_append N (names_if cat.var) (told_names cats)
+              (of_variable N L forms vars cat.var declare.3.1 zip.0.variable (all_front (HoldsOf N L) (map (declared_as a_variable) vars) declare.1 here.1)) more.0,
         ),
         more.1,
       )
@@ -140,8 +140,8 @@ module _ (portions : List PlainPortion) (assumed : List (List ℕ)) where
       all_also (DiffersFrom (declared_as a_terminal token)) (HoldsOf (λ (name : List ℕ). IsSpelling name token.text → ⊥) (λ (t : List ℕ). token.text ≢ t))
       (map (declared_as a_terminal) tokens ++ others) (λ e d. from_terminal token.text e.sort e.token.text d) differ.0 in
       let found = told N L rest others cats declare zip (all_right (HoldsOf N L) (map (declared_as a_terminal) tokens) others holds) in
-      let own = of_terminals N L tokens (all_left (HoldsOf N L) (map (declared_as a_terminal) tokens) others holds) in
-      ((found.0, more.0), (all_joined L (map (λ token. token.text) tokens) (listed rest) own found.1, more.1))
+      let own = of_terminals N L tokens (all_front (HoldsOf N L) (map (declared_as a_terminal) tokens) others holds) in
+      ((found.0, more.0), (all_append L (map (λ token. token.text) tokens) (listed rest) own found.1, more.1))
 
   -- no spelling of more names
   clear_more : (name : List ℕ) (names texts : List (List ℕ)) → AllByRecursion (λ (t : List ℕ). IsSpelling name t → ⊥) texts
@@ -194,12 +194,12 @@ module _ (portions : List PlainPortion) (assumed : List (List ℕ)) where
       let found = told (AreApart name.text) (λ (t : List ℕ). IsSpelling name.text t → ⊥) rest declare.1 cats declare.4 zip.1
       (all_right (HoldsOf (AreApart name.text) (λ (t : List ℕ). IsSpelling name.text t → ⊥)) (map (declared_as a_variable) vars) declare.1 holds) in
       let from_var = of_variable (AreApart name.text) (λ (t : List ℕ). IsSpelling name.text t → ⊥) forms vars cat.var declare.3.1 zip.0.variable
-      (all_left (HoldsOf (AreApart name.text) (λ (t : List ℕ). IsSpelling name.text t → ⊥)) (map (declared_as a_variable) vars) declare.1 holds) in
+      (all_front (HoldsOf (AreApart name.text) (λ (t : List ℕ). IsSpelling name.text t → ⊥)) (map (declared_as a_variable) vars) declare.1 holds) in
       let same = sym zip.0.category.name in
       record {
         apart = (
           subst (λ (n : List ℕ). AllByRecursion (AreApart n) (names_if cat.var ++ told_names cats)) same
-              (all_joined (AreApart name.text) (names_if cat.var) (told_names cats) from_var found.0),
+              (all_append (AreApart name.text) (names_if cat.var) (told_names cats) from_var found.0),
           own.0,
         );
         no_spellings = subst (λ (n : List ℕ). AllByRecursion (IsNoSpelling (n ∷ (names_if cat.var ++ told_names cats))) (listed rest)) same

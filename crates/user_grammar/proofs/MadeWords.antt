@@ -10,8 +10,8 @@ use Rattle.user_grammar.specs.Production.{IsMark, AreBrackets, no_brackets, brac
 use Rattle.user_grammar.specs.Fault.{Place, outside, behind_slot, before_word, behind_word, IsOutside, IsSlotWord, IsBinderWord, IsPlaceBehind, at_start, behind_one_more, Follows, slot, item, opens, in_brackets, separator, closes, closes_behind, StandsOutside, no_binder, again, IsBinderOf}
 use Rattle.user_grammar.proofs.Spellings.{not_both}
 use Rattle.user_grammar.proofs.MadeDecided.{Decided, not_refused, mark_decided, among_decided}
-use Rattle.user_grammar.proofs.MadeNames.{all_also}
 use Rattle.user_grammar.proofs.MadeParts.{Part, itself, bound_as, part_of, AreNamesOf, IsSound, InBrackets, Parts, no_parts, terminal_part, binder_part, slot_part}
+use Rattle.binding_terms.proofs.Lists.{all_also, nothing_pushed, same_last}
 
 -- the words of the binders among these parts
 abbrev pub words_of : List Part → List (List ℕ)
@@ -19,20 +19,6 @@ words_of [] = []
 words_of (itself token ∷ parts) = words_of parts
 words_of (bound_as c word ∷ parts) = word ∷ words_of parts
 words_of (part_of c bound ∷ parts) = words_of parts
-
--- the last of two lists is one
-none_last : {X : Type 0} (xs : List X) (x : X) → [] ≡ xs ++ x ∷ [] → ⊥
-none_last [] x same = cc
-none_last (y ∷ xs) x same = cc
-
-last_once : {X : Type 0} (xs ys : List X) (x y : X) → xs ++ x ∷ [] ≡ ys ++ y ∷ [] → (xs ≡ ys) × (x ≡ y)
-last_once [] [] x y same = (refl, cc)
-last_once [] (z ∷ ys) x y same = absurd (let left : [] ≡ ys ++ y ∷ [] = cc in none_last ys y left)
-last_once (z ∷ xs) [] x y same = absurd (let left : [] ≡ xs ++ x ∷ [] = cc in none_last xs x left)
-last_once (z ∷ xs) (w ∷ ys) x y same =
-    let head : z ≡ w = cc in
-    let tail : xs ++ x ∷ [] ≡ ys ++ y ∷ [] = cc in
-    let rest = last_once xs ys x y tail in (ap (λ v. v ∷ xs) head ∙ ap (λ vs. w ∷ vs) rest.0, rest.1)
 
 pick : {A : Type 0} → Decided A → (one other : Place) → Place
 pick (inl is) one other = one
@@ -96,11 +82,11 @@ module _ (portions : List PlainPortion) (cats : List Cat) (known : AreNamesOf po
   -- there is one place behind some tokens
   pub place_once : {front other : List PlainToken} {place also : Place} → IsPlaceBehind portions front place → IsPlaceBehind portions other also → front ≡ other → place ≡ also
   place_once at_start at_start same = refl
-  place_once at_start (behind_one_more {front = front} {token = token} is follows) same = absurd (none_last front token same)
-  place_once (behind_one_more {front = front} {token = token} is follows) at_start same = absurd (none_last front token (sym same))
+  place_once at_start (behind_one_more {front = front} {token = token} is follows) same = absurd (nothing_pushed front token same)
+  place_once (behind_one_more {front = front} {token = token} is follows) at_start same = absurd (nothing_pushed front token (sym same))
   place_once (behind_one_more {front = front} {place = place} {next = next} {token = token} is follows)
       (behind_one_more {front = other} {place = also} {next = then_also} {token = another} too follows_too) same =
-      let ends = last_once front other token another same in
+      let ends = same_last front other token another same in
       let before = place_once is too ends.0 in
       follows_next follows ∙ ap (λ (p : Place). next_place p token) before ∙ ap (λ (t : PlainToken). next_place also t) ends.1 ∙ sym (follows_next follows_too)
 

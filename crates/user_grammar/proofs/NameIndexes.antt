@@ -7,8 +7,7 @@ use Rattle.std.proofs.lemmas.List.{take_more, map-append}
 use Rattle.std.proofs.lemmas.Slice.Eq.{bytes_eq-Decides}
 use Rattle.user_grammar.specs.Names.{AllDiffer, IsAmong}
 use Rattle.user_grammar.specs.Indexed.{HaveSame, IsAdded}
-use Rattle.user_grammar.proofs.FaultLeast.{any_left, any_right, any_cases}
-use Rattle.user_grammar.proofs.Spellings.{all_left, all_right}
+use Rattle.binding_terms.proofs.Lists.{all_front, all_right, any_back, any_front, any_split}
 
 abbrev texts_of : List (Bor (List ℕ)) → List (List ℕ)
 texts_of keys = map (λ key. key.now) keys
@@ -53,13 +52,13 @@ added_among old name new (inl is) text = (
   (λ either. elim either [ inl l ↦ subst (λ ns. IsAmong ns text) (sym is.1) l | inr r ↦ subst (λ ns. IsAmong ns text) (sym is.1) (subst (IsAmong old) r is.0) ]),
 )
 added_among old name new (inr is) text = (
-  (λ any. elim (any_cases (λ one. one ≡ text) old (name ∷ []) (subst (λ ns. IsAmong ns text) is.1 any)) [
+  (λ any. elim (any_split (λ one. one ≡ text) old (name ∷ []) (subst (λ ns. IsAmong ns text) is.1 any)) [
     | inl l ↦ inl l
     | inr r ↦ elim r [ inl same ↦ inr same | inr never ↦ absurd never ]
   ]),
   (λ either. subst (λ ns. IsAmong ns text) (sym is.1) (elim either [
-    | inl l ↦ any_left (λ one. one ≡ text) old (name ∷ []) l
-    | inr same ↦ any_right (λ one. one ≡ text) old (name ∷ []) (inl same)
+    | inl l ↦ any_front (λ one. one ≡ text) old (name ∷ []) l
+    | inr same ↦ any_back (λ one. one ≡ text) old (name ∷ []) (inl same)
   ])),
 )
 
@@ -68,10 +67,10 @@ pub same_one_more : (old texts : List (List ℕ)) (name : List ℕ) (new : List 
 same_one_more old texts name new added same text =
     let members = added_among old name new added text in (
       (λ any. elim (members.0 any) [
-        | inl l ↦ any_left (λ one. one ≡ text) texts (name ∷ []) ((same text).0 l)
-        | inr r ↦ any_right (λ one. one ≡ text) texts (name ∷ []) (inl r)
+        | inl l ↦ any_front (λ one. one ≡ text) texts (name ∷ []) ((same text).0 l)
+        | inr r ↦ any_back (λ one. one ≡ text) texts (name ∷ []) (inl r)
       ]),
-      (λ any. elim (any_cases (λ one. one ≡ text) texts (name ∷ []) any) [
+      (λ any. elim (any_split (λ one. one ≡ text) texts (name ∷ []) any) [
         | inl l ↦ members.1 (inl ((same text).1 l))
         | inr r ↦ elim r [ inl is ↦ members.1 (inr is) | inr never ↦ absurd never ]
       ]),
@@ -127,7 +126,7 @@ last_differs (text ∷ texts) name differ (inr any) = last_differs texts name di
 
 front_differs : (texts : List (List ℕ)) (name : List ℕ) → AllDiffer (texts ++ name ∷ []) → AllDiffer texts
 front_differs [] name differ = tt
-front_differs (text ∷ texts) name differ = (all_left (λ (other : List ℕ). text ≢ other) texts (name ∷ []) differ.0, front_differs texts name differ.1)
+front_differs (text ∷ texts) name differ = (all_front (λ (other : List ℕ). text ≢ other) texts (name ∷ []) differ.0, front_differs texts name differ.1)
 
 order_one_more : (old texts : List (List ℕ)) (name : List ℕ) (new : List (List ℕ)) → IsAdded old name new → (AllDiffer texts → old ≡ texts)
     → AllDiffer (texts ++ name ∷ []) → new ≡ texts ++ name ∷ []

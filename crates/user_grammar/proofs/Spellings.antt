@@ -6,18 +6,11 @@ use Rattle.std.specs.List.{AllByRecursion}
 use Rattle.binding_terms.specs.declared.grammar.Cat.{Cat}
 use Rattle.rule_schemes.specs.Reading.{IsEnding, IsSpelling, IsVariableWord}
 use Rattle.user_grammar.specs.Names.{names_if, category_names, variable_names, names, IsCategoryWord, IsNoSpelling, AreApart, AllApart, AllDiffer}
-
-pub all_left : {X : Type 0} (P : X → Type 0) (xs ys : List X) → AllByRecursion P (xs ++ ys) → AllByRecursion P xs
-all_left P [] ys all = tt
-all_left P (x ∷ xs) ys all = (all.0, all_left P xs ys all.1)
-
-pub all_right : {X : Type 0} (P : X → Type 0) (xs ys : List X) → AllByRecursion P (xs ++ ys) → AllByRecursion P ys
-all_right P [] ys all = all
-all_right P (x ∷ xs) ys all = all_right P xs ys all.1
+use Rattle.binding_terms.proofs.Lists.{all_front, all_right}
 
 pub apart_left : (xs ys : List (List ℕ)) → AllApart (xs ++ ys) → AllApart xs
 apart_left [] ys apart = tt
-apart_left (x ∷ xs) ys apart = (all_left (AreApart x) xs ys apart.0, apart_left xs ys apart.1)
+apart_left (x ∷ xs) ys apart = (all_front (AreApart x) xs ys apart.0, apart_left xs ys apart.1)
 
 pub apart_right : (xs ys : List (List ℕ)) → AllApart (xs ++ ys) → AllApart ys
 apart_right [] ys apart = apart
@@ -85,7 +78,7 @@ not_both cats c d word apart one other =
 -- a word that is no spelling spells no category and no variable
 pub no_category : (cats : List Cat) (c : ℕ) (word : List ℕ) → IsNoSpelling (names cats) word → IsCategoryWord cats c word → ⊥
 no_category cats c word none at =
-    let found = found_category (λ (name : List ℕ). IsSpelling name word → ⊥) cats c word (all_left (λ (name : List ℕ). IsSpelling name word → ⊥) (category_names cats) (variable_names cats) none) at in
+    let found = found_category (λ (name : List ℕ). IsSpelling name word → ⊥) cats c word (all_front (λ (name : List ℕ). IsSpelling name word → ⊥) (category_names cats) (variable_names cats) none) at in
     found.1 found.2
 
 pub no_variable : (cats : List Cat) (c : ℕ) (word : List ℕ) → IsNoSpelling (names cats) word → Spells cats c word → ⊥
@@ -114,9 +107,9 @@ one_place (x ∷ texts) (suc n) (suc m) text differ one other = ap suc (one_plac
 pub common_spelling : (one other first second : List ℕ) → one ++ first ≡ other ++ second → AllByRecursion IsEnding first → AllByRecursion IsEnding second
     → IsSpelling one other ⊎ IsSpelling other one
 common_spelling [] other first second same one_ends other_ends =
-    inl (other, refl, all_left IsEnding other second (subst (AllByRecursion IsEnding) same one_ends))
+    inl (other, refl, all_front IsEnding other second (subst (AllByRecursion IsEnding) same one_ends))
 common_spelling (c ∷ one) [] first second same one_ends other_ends =
-    inr (c ∷ one, refl, all_left IsEnding (c ∷ one) first (subst (AllByRecursion IsEnding) (sym same) other_ends))
+    inr (c ∷ one, refl, all_front IsEnding (c ∷ one) first (subst (AllByRecursion IsEnding) (sym same) other_ends))
 common_spelling (c ∷ one) (d ∷ other) first second same one_ends other_ends =
     let head : c ≡ d = cc in
     let left : one ++ first ≡ other ++ second = cc in

@@ -1,9 +1,9 @@
 use Rattle.std.proofs.Common.{map, option_map, ap, ◌∙◌, sym}
 use Rattle.scheme_terms.specs.View.{substitution}
 use Rattle.pattern_unify.specs.Equations.{equation}
-use Rattle.core_proofs.proofs.RuleFitting.{mapped_some}
 use Rattle.core_proofs.proofs.GoalFitting.{none_has, decided, are_to_fit, nothing_bound}
 use Rattle.core_proofs.proofs.goal.has_goal.Goals as goal
+use Rattle.binding_terms.proofs.Lists.{is_some_mapped}
 
 pub returns-in-None : goal.returns-in-None
 returns-in-None c =
@@ -25,4 +25,4 @@ returns c =
     let some = sym c.in_ok-equations.ensures ∙ ap (option_map (λ es. map equation es.items)) c.in-Some.is in
     let answer = rw c.sig.ensures at c.in_ok-found.ensures in
     let is = decided _ c.always_system.ensures.plain _ _ _ c.requires.provable c.requires.scope c.requires.form _ some (option_map substitution c.in_ok-found.found) answer in
-    rw (c.is_some.ensures, ← mapped_some substitution c.in_ok-found.found) is
+    rw (c.is_some.ensures, ← is_some_mapped substitution c.in_ok-found.found) is

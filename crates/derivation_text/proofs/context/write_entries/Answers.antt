@@ -4,8 +4,8 @@ use Rattle.rule_schemes.specs.Printing.{entries_tokens, entry_tokens, no_labels,
 use Rattle.derivation_text.specs.Page.{written}
 use Rattle.derivation_text.specs.View.{entry_scheme, plain_entries, variables}
 use Rattle.derivation_text.proofs.Pages.{written_step, written_whole}
-use Rattle.derivation_text.proofs.Terms.{list_from}
 use Rattle.derivation_text.proofs.context.write_entries.Goals as goal
+use Rattle.binding_terms.proofs.Lists.{drop_from}
 
 pub loop-entry-preserved : goal.loop-entry-preserved
 loop-entry-preserved c =
@@ -19,7 +19,7 @@ loop-entry-preserved c =
     ∙ (λ k. written c.loop-entry.page (entry_tokens sig no_labels (variables (c.as_slice.ensures.value k)) (entry_scheme c.entry-item.result))))
     c.loop-entry.invariant
     (ap (λ es. entries_tokens sig no_labels (variables c.loop-entry.scope.items) (plain_entries es))
-    (list_from entries place c.entry-item.result c.loop-entry-test.true c.entry-item.is))
+    (drop_from entries place c.entry-item.result c.loop-entry-test.true c.entry-item.is))
 
 pub returns : goal.returns
 returns c =

@@ -3,12 +3,12 @@ use Rattle.std.specs.Option.{option_copied}
 use Rattle.rule_schemes.specs.View.{theory}
 use Rattle.derivation_text.specs.View.{root_value}
 use Rattle.derivation_text.proofs.Derivations.{lines_step, numbers_step}
-use Rattle.derivation_text.proofs.Terms.{list_from}
 use Rattle.derivation_text.proofs.derivation.push_trees.Goals as goal
+use Rattle.binding_terms.proofs.Lists.{drop_from}
 
 pub loop-tree-preserved : goal.loop-tree-preserved
 loop-tree-preserved c =
-    let first = list_from c.args.trees.now c.loop-tree.tree-index c.tree-item.result c.loop-tree-test.true c.tree-item.is in
+    let first = drop_from c.args.trees.now c.loop-tree.tree-index c.tree-item.result c.loop-tree-test.true c.tree-item.is in
     let number = c.in_ok-last.ensures.number in
     record {
       text =

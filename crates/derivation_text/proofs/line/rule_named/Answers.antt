@@ -4,8 +4,8 @@ use Rattle.std.specs.List.{position}
 use Rattle.rule_schemes.specs.View.{rule}
 use Rattle.rule_schemes.specs.Rules.{Rule}
 use Rattle.rule_schemes.specs.declared.rule.RuleScheme.{RuleScheme}
-use Rattle.derivation_text.proofs.LineLemmas.{position_map}
 use Rattle.derivation_text.proofs.line.rule_named.Goals as goal
+use Rattle.binding_terms.proofs.Lists.{position_map}
 
 pub returns-clause-number : goal.returns-clause-number
 returns-clause-number c =

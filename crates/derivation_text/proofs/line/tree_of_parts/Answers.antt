@@ -4,8 +4,9 @@ use Rattle.rule_schemes.specs.declared.rule.JudgInst.{JudgInst}
 use Rattle.term_reader.specs.View.{token}
 use Rattle.derivation_text.specs.Found.{HasValue, HasNoJudgment, cited_trees}
 use Rattle.derivation_text.proofs.CitedLemmas.{cited_from, cited_derive}
-use Rattle.derivation_text.proofs.LineLemmas.{none_case, some_case, answer_map, value_judged, no_judgment_tree, no_parts_tree}
+use Rattle.derivation_text.proofs.LineLemmas.{answer_map, value_judged, no_judgment_tree, no_parts_tree}
 use Rattle.derivation_text.proofs.line.tree_of_parts.Goals as goal
+use Rattle.binding_terms.proofs.Lists.{none_case, some_case}
 
 pub returns-in-None-2 : goal.returns-in-None-2
 returns-in-None-2 c =

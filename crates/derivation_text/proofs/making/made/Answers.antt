@@ -5,11 +5,11 @@ use Rattle.derivation_check.specs.Parts.{subtrees_of}
 use Rattle.rule_schemes.specs.Plain.{HasPlainNames}
 use Rattle.rule_schemes.specs.View.{theory, judgment_value}
 use Rattle.rule_schemes.specs.View.{rule as plain_rule}
-use Rattle.derivation_text.proofs.FormLemmas.{all_at}
 use Rattle.derivation_text.proofs.RuleLemmas.{rule_at, no_tree, made_is}
 use Rattle.derivation_text.proofs.NodeLemmas.{not_when}
 use Rattle.derivation_text.specs.Valid.{IsMade}
 use Rattle.derivation_text.proofs.making.made.Goals as goal
+use Rattle.binding_terms.proofs.Lists.{all_at}
 
 pub is_node-requires-clause-fits : goal.is_node-requires-clause-fits
 is_node-requires-clause-fits c =

@@ -1,9 +1,10 @@
 use Rattle.term_reader.specs.View.{token}
-use Rattle.derivation_text.proofs.NodeLemmas.{no_parts_empty, no_parts_by, no_parts_rule, no_parts_name, empty_map, not_when}
+use Rattle.derivation_text.proofs.NodeLemmas.{no_parts_empty, no_parts_by, no_parts_rule, no_parts_name, not_when}
 use Rattle.derivation_text.proofs.node.by_parts.Goals as goal
+use Rattle.binding_terms.proofs.Lists.{map_empty}
 
 pub returns-then-form-eq0 : goal.returns-then-form-eq0
-returns-then-form-eq0 c ts cut = no_parts_empty ts _ _ cut (empty_map token c.args.form.now c.if-form-eq0.true)
+returns-then-form-eq0 c ts cut = no_parts_empty ts _ _ cut (map_empty token c.args.form.now c.if-form-eq0.true)
 
 pub returns-then-not-is_word : goal.returns-then-not-is_word
 returns-then-not-is_word c ts cut = no_parts_by ts _ _ _ _ _ cut (not_when c.is_word.ensures c.if-not-is_word.true)

@@ -10,8 +10,9 @@ use Rattle.derivation_text.specs.Valid.{AreValid, nothing_around}
 use Rattle.derivation_text.specs.declared.derivs.Named.{Named}
 use Rattle.derivation_text.specs.declared.derivs.Derivs.{Derivs}
 use Rattle.derivation_text.specs.declared.reader.Seen.TheVariants.{Wrong, Tree, End}
-use Rattle.derivation_text.proofs.ReaderLemmas.{Reaches, reaches_wrong, reaches_last, reaches_more, reaches_tree, names_derive, option_case, lines_at, next_within, next_at, none_lines, some_lines, seen_as}
+use Rattle.derivation_text.proofs.ReaderLemmas.{Reaches, reaches_wrong, reaches_last, reaches_more, reaches_tree, names_derive, lines_at, next_within, next_at, none_lines, some_lines, seen_as}
 use Rattle.derivation_text.proofs.reader.read_lines.Goals as goal
+use Rattle.binding_terms.proofs.Lists.{option_case}
 
 pub returns-in-Wrong : goal.returns-in-Wrong
 returns-in-Wrong c =

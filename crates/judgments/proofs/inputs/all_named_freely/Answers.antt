@@ -1,7 +1,7 @@
 use Rattle.judgments.specs.Statements.{IsNamedFreely}
 use Rattle.judgments.specs.Views.{given_text}
-use Rattle.judgments.proofs.Zips.{all_step}
 use Rattle.judgments.proofs.inputs.all_named_freely.Goals as goal
+use Rattle.binding_terms.proofs.Lists.{all_step}
 
 pub loop-input-preserved : goal.loop-input-preserved
 loop-input-preserved c =

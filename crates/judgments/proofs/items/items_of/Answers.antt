@@ -1,8 +1,8 @@
 use Rattle.proof_lexer.specs.View.{token_view}
 use Rattle.outline_reader.specs.Plain.{outlined}
 use Rattle.judgments.specs.Theory.{IsItemOf}
-use Rattle.judgments.proofs.Zips.{zip_more, zip_none}
 use Rattle.judgments.proofs.items.items_of.Goals as goal
+use Rattle.binding_terms.proofs.Lists.{zip_more, zip_none}
 
 pub returns-in-None : goal.returns-in-None
 returns-in-None c =

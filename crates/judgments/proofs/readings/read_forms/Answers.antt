@@ -3,8 +3,8 @@ use Rattle.scheme_terms.specs.View.{names}
 use Rattle.proof_lexer.specs.View.{kind_and_text}
 use Rattle.rule_schemes.specs.View.{judgment_scheme}
 use Rattle.judgments.specs.Written.{ReadsOnlyAs}
-use Rattle.judgments.proofs.Zips.{zip_more, zip_none, map_append}
 use Rattle.judgments.proofs.readings.read_forms.Goals as goal
+use Rattle.binding_terms.proofs.Lists.{map_append, zip_more, zip_none}
 
 pub returns-in-None : goal.returns-in-None
 returns-in-None c =

@@ -5,8 +5,8 @@ use Rattle.outline_reader.specs.Plain.{plain_portion}
 use Rattle.rule_schemes.specs.View.{theory, statement as plain_statement}
 use Rattle.judgments.specs.Built.{IsBuiltTheorem}
 use Rattle.judgments.proofs.FileStatements.{next_stated, no_theorems}
-use Rattle.judgments.proofs.Zips.{map_append}
 use Rattle.judgments.proofs.statements.all_stated.Goals as goal
+use Rattle.binding_terms.proofs.Lists.{map_append}
 
 pub returns-in-None : goal.returns-in-None
 returns-in-None c =

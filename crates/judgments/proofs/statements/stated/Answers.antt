@@ -1,8 +1,9 @@
 use Rattle.std.proofs.Common.{◌≡◌, ◌∙◌, sym, length, None}
 use Rattle.rule_schemes.specs.View.{theory, statement as plain_statement}
 use Rattle.judgments.specs.Texts.{group_of}
-use Rattle.judgments.proofs.FileStatements.{targets_none, some_target, no_targets_at_all, none_assumed, none_when_not_some, same_theorem, alone_stated, alone_none}
+use Rattle.judgments.proofs.FileStatements.{targets_none, some_target, no_targets_at_all, none_assumed, same_theorem, alone_stated, alone_none}
 use Rattle.judgments.proofs.statements.stated.Goals as goal
+use Rattle.binding_terms.proofs.Lists.{none_where_not_some}
 
 pub returns-then-len-ne0 : goal.returns-then-len-ne0
 returns-then-len-ne0 c =
@@ -11,7 +12,7 @@ returns-then-len-ne0 c =
 
 pub returns-in_ok-alone-in-Some : goal.returns-in_ok-alone-in-Some
 returns-in_ok-alone-in-Some c =
-    let assumed : c.in-Theorem.assumes ≡ None = none_when_not_some c.in-Theorem.assumes (sym c.is_some.ensures ∙ c.if-is_some.false) in
+    let assumed : c.in-Theorem.assumes ≡ None = none_where_not_some c.in-Theorem.assumes (sym c.is_some.ensures ∙ c.if-is_some.false) in
     let empty : length c.in-Theorem.targets.items ≡ 0 = sym c.in-Theorem.targets.ok.0 ∙ sym c.len.ensures ∙ c.if-len-ne0.false in
     rw (c.in-Theorem.is, c.in_ok-alone-in-Some.ensures)
     (alone_stated (theory c.args.sys.now) _ _ (plain_statement c.in-Some.statement)
@@ -22,7 +23,7 @@ returns-in_ok-alone-in-Some c =
 
 pub returns-in-None : goal.returns-in-None
 returns-in-None c =
-    let assumed : c.in-Theorem.assumes ≡ None = none_when_not_some c.in-Theorem.assumes (sym c.is_some.ensures ∙ c.if-is_some.false) in
+    let assumed : c.in-Theorem.assumes ≡ None = none_where_not_some c.in-Theorem.assumes (sym c.is_some.ensures ∙ c.if-is_some.false) in
     let empty : length c.in-Theorem.targets.items ≡ 0 = sym c.in-Theorem.targets.ok.0 ∙ sym c.len.ensures ∙ c.if-len-ne0.false in
     rw c.in-Theorem.is
     (alone_none (theory c.args.sys.now) _ _

@@ -3,8 +3,8 @@ use Rattle.rule_schemes.specs.Rules.{Theory}
 use Rattle.rule_schemes.specs.View.{theory, rule as plain_rule}
 use Rattle.judgments.proofs.GoodRules.{good_rule}
 use Rattle.judgments.proofs.SystemLemmas.{same_text, rule_added, rule_none}
-use Rattle.judgments.proofs.Zips.{map_append}
 use Rattle.judgments.proofs.system.add_portion.Goals as goal
+use Rattle.binding_terms.proofs.Lists.{map_append}
 
 pub add-requires : goal.add-requires
 add-requires c = good_rule (theory c.args.sys.now) c.requires _ (plain_rule c.in-Some.rule) (rw c.in-Some.is at c.in_ok-rule-in-Rule.ensures)

@@ -3,7 +3,6 @@ use Rattle.std.proofs.lemmas.List.{take_all}
 use Rattle.rule_schemes.specs.Said.{IsBefore, AreBefore}
 use Rattle.term_reader.specs.Firsts.{listed}
 use Rattle.term_reader.specs.Splitting.{slot_range, tokens_of}
-use Rattle.term_reader.proofs.Usable.{all_at_place}
 use Rattle.notation_parser.specs.Forms.{IsReadInShape, IsReadInShapes}
 use Rattle.notation_parser.specs.Fronts.{AreFirstAt, placed}
 use Rattle.notation_parser.specs.Shapes.{IsUsable, context_shape}
@@ -12,12 +11,13 @@ use Rattle.notation_parser.proofs.AroundShapes.{all_ranked, no_fronts}
 use Rattle.notation_parser.proofs.PlaceOrder.{before_trans}
 use Rattle.notation_parser.proofs.SeveralRanked.{ranked_none, ranked_more, ranked_enough}
 use Rattle.notation_parser.proofs.in_context.in_shapes.Goals as goal
+use Rattle.binding_terms.proofs.Lists.{all_pick}
 
 pub in_one_shape-requires-clause-usable : goal.in_one_shape-requires-clause-usable
 in_one_shape-requires-clause-usable c =
     let sheet = c.args.sheet.now in
     subst (λ s. IsUsable sheet (context_shape s)) (sym c.shape-item.is)
-    (all_at_place context_shape (IsUsable sheet) c.args.all.now c.loop-shape.shape-index c.shape-item.result c.loop-shape-test.true c.requires.usable)
+    (all_pick context_shape (IsUsable sheet) c.args.all.now c.loop-shape.shape-index c.shape-item.result c.loop-shape-test.true c.requires.usable)
 
 pub loop-shape-init : goal.loop-shape-init
 loop-shape-init c =

@@ -2,8 +2,8 @@ use Rattle.std.proofs.Common.{◌≡◌, ◌↔◌, ◌+◌, ◌∷◌, [], IsTr
 use Rattle.scheme_terms.specs.View.{known_variable}
 use Rattle.notation_parser.specs.Renaming.{OccursInWanted}
 use Rattle.notation_parser.specs.View.{written}
-use Rattle.notation_parser.proofs.Again.{numbered_push}
 use Rattle.notation_parser.proofs.occurring.marks_of.Goals as goal
+use Rattle.binding_terms.proofs.Lists.{numbered_push}
 
 pub loop-i-preserved : goal.loop-i-preserved
 loop-i-preserved c =

@@ -9,18 +9,18 @@ use Rattle.term_reader.specs.Ordered.{ReadsTermAt}
 use Rattle.term_reader.specs.Splitting.{tokens_of}
 use Rattle.term_reader.specs.View.{token}
 use Rattle.term_reader.proofs.Ranges.{range_all}
-use Rattle.term_reader.proofs.SplitLemmas.{all_both}
 use Rattle.notation_parser.specs.Forms.{IsTermRead}
 use Rattle.notation_parser.specs.View.{reading_scope}
 use Rattle.notation_parser.proofs.Wanted.{terms_read}
 use Rattle.notation_parser.proofs.over.alone.Goals as goal
+use Rattle.binding_terms.proofs.Lists.{all_append}
 
 pub terms-requires-clause-vars : goal.terms-requires-clause-vars
 terms-requires-clause-vars c =
     let sheet = c.args.sheet.now in
     let scope = reading_scope c.args.scope.now in
     rw (c.as_slice-3.ensures, c.in_ok-vars.ensures, c.as_slice-2.ensures, c.in_ok-own.ensures, c.as_slice.ensures, c.requires.knowns)
-    (all_both (λ (v : Variable). MayBeVariable sheet.sig.now sheet.words.now v.cat v.word) scope.vars (known_words sheet.sig.now 0 scope.names.knowns) c.requires.scope.0 c.requires.scope.1)
+    (all_append (λ (v : Variable). MayBeVariable sheet.sig.now sheet.words.now v.cat v.word) scope.vars (known_words sheet.sig.now 0 scope.names.knowns) c.requires.scope.0 c.requires.scope.1)
 
 pub returns : goal.returns
 returns c =

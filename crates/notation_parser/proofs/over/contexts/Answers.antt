@@ -7,13 +7,13 @@ use Rattle.term_reader.specs.Splitting.{tokens_of}
 use Rattle.term_reader.specs.View.{token}
 use Rattle.term_reader.proofs.Finding.{AreFirst-same}
 use Rattle.term_reader.proofs.Ranges.{range_all}
-use Rattle.term_reader.proofs.Usable.{all_at_place}
 use Rattle.notation_parser.specs.Forms.{IsContextRead}
 use Rattle.notation_parser.specs.Shapes.{AreShapes, IsUsable, context_shape}
 use Rattle.notation_parser.specs.View.{outcome, reading_scope}
 use Rattle.notation_parser.proofs.ContextForms.{AsContext, contexts_apart, context_as, contexts_read}
 use Rattle.notation_parser.proofs.Several.{InOneOf, several_none, several_more, several_enough}
 use Rattle.notation_parser.proofs.over.contexts.Goals as goal
+use Rattle.binding_terms.proofs.Lists.{all_pick}
 
 pub shapes-requires-clause-range : goal.shapes-requires-clause-range
 shapes-requires-clause-range c = (omega arith, omega arith)
@@ -22,7 +22,7 @@ pub in_shape-requires-clause-usable : goal.in_shape-requires-clause-usable
 in_shape-requires-clause-usable c =
     let sheet = c.args.sheet.now in
     subst (λ s. IsUsable sheet (context_shape s)) (sym c.shape-item.is)
-    (all_at_place context_shape (IsUsable sheet) c.as_slice-shape-items.result.now c.loop-shape.shape-index c.shape-item.result c.loop-shape-test.true
+    (all_pick context_shape (IsUsable sheet) c.as_slice-shape-items.result.now c.loop-shape.shape-index c.shape-item.result c.loop-shape-test.true
     (subst (λ xs. AllByRecursion (IsUsable sheet) (map context_shape xs)) (sym c.as_slice-shape-items.ensures) c.in_ok-all.ensures.usable))
 
 pub loop-shape-init : goal.loop-shape-init

@@ -1,7 +1,7 @@
 use Rattle.std.proofs.Common.{◌<◌, length, sym, ◌∙◌, true≢false, arith}
 use Rattle.scheme_terms.specs.View.{scheme}
-use Rattle.notation_parser.proofs.SameLists.{same_length, same_at}
 use Rattle.notation_parser.proofs.sameness.same_schemes.Goals as goal
+use Rattle.binding_terms.proofs.Lists.{same_at, same_length}
 
 pub returns-then-xs-ys : goal.returns-then-xs-ys
 returns-then-xs-ys c = (λ e. absurd (true≢false (sym e)), λ e. absurd (c.if-xs-ys.true (same_length scheme _ _ e)))

@@ -11,15 +11,15 @@ use Rattle.notation_parser.specs.View.{reading_scope}
 use Rattle.notation_parser.proofs.ContextBeginnings.{by_entry}
 use Rattle.notation_parser.proofs.ContextEntries.{some_own, no_entry, entered_shapes}
 use Rattle.notation_parser.proofs.ContextSteps.{entries_more, contexts_more, all_shapes}
-use Rattle.notation_parser.proofs.ShapeViews.{none_mapped}
 use Rattle.notation_parser.proofs.shaping.+shapes.Goals as goal
+use Rattle.binding_terms.proofs.Lists.{map_empty}
 
 pub entered_at-returns-then-len-eq0 : goal.entered_at-returns-then-len-eq0
 entered_at-returns-then-len-eq0 t c =
     let sheet = c.args.sheet.now in
     let items = drop 1 c.args.items.now in
     let within : c.args.to ≤ length (tokens_of sheet) = omega (arith, c.requires.range.2, length-map sheet.tokens.now token) in
-    let none = none_mapped split c.in_ok-behind.behind (sym c.len.ensures ∙ c.if-len-eq0.true) in
+    let none = map_empty split c.in_ok-behind.behind (sym c.len.ensures ∙ c.if-len-eq0.true) in
     rw c.new.ensures
     (no_entry sheet (reading_scope c.args.scope.now) c.args.cat c.args.from c.args.place c.args.to c.args.prod.0 items c.requires.range.0 c.requires.range.1 within c.requires.entry.1
     c.requires.scope (subst (AreSplits (Stands sheet) (IsSplit sheet.sig.now (tokens_of sheet) c.args.to items c.args.place)) none c.in_ok-behind.ensures))

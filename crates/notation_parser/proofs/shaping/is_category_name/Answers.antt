@@ -5,9 +5,10 @@ use Rattle.rule_schemes.specs.Reading.{word}
 use Rattle.term_reader.specs.Splitting.{tokens_of}
 use Rattle.term_reader.specs.View.{token}
 use Rattle.term_reader.proofs.Ranges.{range_length}
-use Rattle.term_reader.proofs.SplitLemmas.{no_token, token_or_at}
+use Rattle.term_reader.proofs.SplitLemmas.{no_token}
 use Rattle.notation_parser.proofs.ContextBeginnings.{other_length, one_name}
 use Rattle.notation_parser.proofs.shaping.is_category_name.Goals as goal
+use Rattle.binding_terms.proofs.Lists.{get_mapped_or}
 
 pub returns-then-to-from-ne1 : goal.returns-then-to-from-ne1
 returns-then-to-from-ne1 c =
@@ -27,4 +28,4 @@ returns-in-Some c =
     rw (c.as_slice.ensures.value, c.cats.ensures.value) at (sym c.at.ensures ∙ ap option_copied c.in-Some.is) in
     let is : IsTrue c.is_word.result ↔ (token here ≡ word c.in-Some.found.now.name) = rw c.bytes.ensures at c.is_word.ensures in
     one_name sheet.sig.now c.args.cat.0 (tokens_of sheet) c.args.from c.args.to (token here) c.in-Some.found.now c.is_word.result c.requires.0 within one
-    (token_or_at token sheet.tokens.now c.args.from no_token lt) cat is
+    (get_mapped_or token sheet.tokens.now c.args.from no_token lt) cat is

@@ -1,7 +1,8 @@
 use Rattle.std.proofs.Common.{◌≡◌, ◌≢◌, sym, ap, ◌∙◌, true≢false}
 use Rattle.rule_schemes.specs.declared.rule.RuleScheme.{RuleScheme}
-use Rattle.proof_check.proofs.NumberLemmas.{first_found, none_found, all_more}
+use Rattle.proof_check.proofs.NumberLemmas.{first_found, none_found}
 use Rattle.proof_check.proofs.names.first_named.Goals as goal
+use Rattle.binding_terms.proofs.Lists.{all_more}
 
 pub returns-then-is_same : goal.returns-then-is_same
 returns-then-is_same c =

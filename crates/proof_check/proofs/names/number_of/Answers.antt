@@ -1,6 +1,7 @@
 use Rattle.std.proofs.Common.{◌≢◌, ℕ, List, sym, ◌∙◌, true≢false}
-use Rattle.proof_check.proofs.NumberLemmas.{name_found, no_name_found, all_more}
+use Rattle.proof_check.proofs.NumberLemmas.{name_found, no_name_found}
 use Rattle.proof_check.proofs.names.number_of.Goals as goal
+use Rattle.binding_terms.proofs.Lists.{all_more}
 
 pub returns-then-is_same : goal.returns-then-is_same
 returns-then-is_same c =

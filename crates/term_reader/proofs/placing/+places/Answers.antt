@@ -7,15 +7,16 @@ use Rattle.rule_schemes.specs.Reading.{word}
 use Rattle.term_reader.specs.Splitting.{SlotRange, Divided, tokens_of, AreKnown, AreWithin, reach, slot_range, split}
 use Rattle.term_reader.specs.View.{token, variable, in_scope}
 use Rattle.term_reader.proofs.Pieces.{known_scope}
-use Rattle.term_reader.proofs.SplitLemmas.{if_ok, no_token, token_or_at}
+use Rattle.term_reader.proofs.SplitLemmas.{if_ok, no_token}
 use Rattle.term_reader.proofs.TermEnds.{no_name_here, no_group}
-use Rattle.term_reader.proofs.Usable.{no_piece, all_at_place, longest_at, reach_at, split_at, usable_splits, reach_splits, usable_brackets, reach_brackets}
+use Rattle.term_reader.proofs.Usable.{no_piece, longest_at, reach_at, split_at, usable_splits, reach_splits, usable_brackets, reach_brackets}
 use Rattle.term_reader.proofs.Alone.{name_alone, bound_alone, made_alone, name_numbered, made_numbered}
 use Rattle.term_reader.proofs.Groups.{group_first, no_group_inside, group_is_first, alone_is_first, range_around}
 use Rattle.term_reader.proofs.Heads.{head_kind, scheme_of_meta, scheme_of_known, scheme_of_local, scheme_of_con}
 use Rattle.term_reader.proofs.InSplits.{none_more, first_split, name_first, made_first, none_bound_otherwise}
 use Rattle.term_reader.proofs.Slots.{as_many_read, each_at, none_at, all_first}
 use Rattle.term_reader.proofs.placing.+places.Goals as goal
+use Rattle.binding_terms.proofs.Lists.{all_pick, get_mapped_or}
 
 pub alone-returns-in-Meta : goal.alone-returns-in-Meta
 alone-returns-in-Meta t c =
@@ -82,7 +83,7 @@ as_name_of-returns-then-not-is_word t c =
     let l : c.args.from < length sheet.tokens.now = omega arith in
     let here = get_or sheet.tokens.now c.args.from no_token in
     λ w s q. no_name_here sheet (in_scope c.args.vars.now) c.args.from c.args.to c.requires.range.0 c.requires.range.1 c.args.number.0 c.args.decl.now c.args.cat.0
-    (λ lt e. (let two : Some (token here) ≡ Some (word c.args.decl.now.name) = sym (token_or_at token sheet.tokens.now c.args.from no_token l) ∙ e in
+    (λ lt e. (let two : Some (token here) ≡ Some (word c.args.decl.now.name) = sym (get_mapped_or token sheet.tokens.now c.args.from no_token l) ∙ e in
     let same : token here ≡ word c.args.decl.now.name = cc in
     true≢false (sym (c.is_word.ensures.1 (rw c.bytes.ensures same)) ∙ c.if-not-is_word.true))) w s q.0
 
@@ -102,7 +103,7 @@ as_name_of-returns t c =
     let lt : c.args.from < c.args.to = omega arith in
     let here = get_or sheet.tokens.now c.args.from no_token in
     let this : token here ≡ word c.args.decl.now.name = rw c.bytes.ensures at (c.is_word.ensures.0 c.if-not-is_word.false) in
-    let found : slice_get (tokens_of sheet) c.args.from ≡ Some (word c.args.decl.now.name) = token_or_at token sheet.tokens.now c.args.from no_token l ∙ ap Some this in
+    let found : slice_get (tokens_of sheet) c.args.from ≡ Some (word c.args.decl.now.name) = get_mapped_or token sheet.tokens.now c.args.from no_token l ∙ ap Some this in
     if_ok c.in_splits.result _ _ (λ place f. name_first sheet (in_scope c.args.vars.now) c.requires.vars c.args.from c.args.to c.requires.range.1 c.args.number c.args.decl.now c.args.cat.0 _
     (map scheme c.args.args.now) place c.if-decl-cat.false lt found (rw c.as_slice.ensures at c.in_ok-all.ensures) f)
     (rw c.as_slice-2.ensures at c.in_splits.ensures)
@@ -205,7 +206,7 @@ places_of-in_slot-requires t c =
     let sheet = c.args.sheet.now in
     let slots = c.args.slots.now in
     let i = c.loop-i.i in
-    let range = all_at_place slot_range (λ (q : SlotRange). (q.from ≤ q.to) × (q.to ≤ length sheet.tokens.now)) slots i no_piece c.loop-i-test.true c.requires.within in
+    let range = all_pick slot_range (λ (q : SlotRange). (q.from ≤ q.to) × (q.to ≤ length sheet.tokens.now)) slots i no_piece c.loop-i-test.true c.requires.within in
     let long = longest_at slots i no_piece c.loop-i-test.true in
     (omega (arith, c.decreases, long), (c.requires.sheet, (c.requires.vars, (c.requires.own, range))))
 

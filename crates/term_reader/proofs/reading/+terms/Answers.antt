@@ -12,11 +12,12 @@ use Rattle.term_reader.specs.View.{token, variable, in_scope}
 use Rattle.term_reader.specs.declared.splitting.Piece.{Piece}
 use Rattle.term_reader.proofs.Finding.{AreFirst-same, AreFirst-joined}
 use Rattle.term_reader.proofs.Pieces.{known_scope}
-use Rattle.term_reader.proofs.SplitLemmas.{if_ok, no_token, token_or_at}
+use Rattle.term_reader.proofs.SplitLemmas.{if_ok, no_token}
 use Rattle.term_reader.proofs.TermCases.{slot_more, none_read, no_slots, made_more, made_enough, made_in_none, made_in_splits, no_product_of, is_product, no_product, groups_first, variables_last, one_product_more, products_apart, read_enough, term_read, one_name_more, all_names, names_apart}
 use Rattle.term_reader.proofs.TermEnds.{name_read, no_name_here, group_in_range, no_group, group_short}
-use Rattle.term_reader.proofs.Usable.{no_piece, mapped_parts, all_at_place, longest_at, reach_at, split_at, usable_splits, reach_splits, usable_brackets, reach_brackets}
+use Rattle.term_reader.proofs.Usable.{no_piece, longest_at, reach_at, split_at, usable_splits, reach_splits, usable_brackets, reach_brackets}
 use Rattle.term_reader.proofs.reading.+terms.Goals as goal
+use Rattle.binding_terms.proofs.Lists.{all_pick, get_mapped_or, mapped_parts}
 
 pub parts-terms-requires : goal.parts-terms-requires
 parts-terms-requires t c =
@@ -24,7 +25,7 @@ parts-terms-requires t c =
     let slots = c.args.slots.now in
     let j = c.loop-slot.slot-index in
     let p : Piece = get_or slots j no_piece in
-    let range = all_at_place slot_range (λ (q : SlotRange). (q.from ≤ q.to) × (q.to ≤ length sheet.tokens.now)) slots j no_piece c.loop-slot-test.true c.requires.within in
+    let range = all_pick slot_range (λ (q : SlotRange). (q.from ≤ q.to) × (q.to ≤ length sheet.tokens.now)) slots j no_piece c.loop-slot-test.true c.requires.within in
     let long = longest_at slots j no_piece c.loop-slot-test.true in
     let known : AreKnown sheet (in_scope c.as_slice.result.now) =
     rw (c.as_slice.ensures, c.in_ok-scope.ensures) (known_scope sheet (in_scope c.args.vars.now) (map variable c.args.own.now) p.binds.now c.requires.vars c.requires.own) in
@@ -119,7 +120,7 @@ name-returns-then-not-is_word t c =
     let l : c.args.from < length sheet.tokens.now = omega arith in
     let here = get_or sheet.tokens.now c.args.from no_token in
     no_name_here sheet (in_scope c.args.vars.now) c.args.from c.args.to c.requires.range.0 c.requires.range.1 c.args.m c.args.decl.now c.args.cat.0
-    (λ lt e. (let two : Some (token here) ≡ Some (word c.args.decl.now.name) = sym (token_or_at token sheet.tokens.now c.args.from no_token l) ∙ e in
+    (λ lt e. (let two : Some (token here) ≡ Some (word c.args.decl.now.name) = sym (get_mapped_or token sheet.tokens.now c.args.from no_token l) ∙ e in
     let same : token here ≡ word c.args.decl.now.name = cc in
     true≢false (sym (c.is_word.ensures.1 (rw c.bytes.ensures same)) ∙ c.if-not-is_word.true)))
 
@@ -130,7 +131,7 @@ name-returns t c =
     let lt : c.args.from < c.args.to = omega arith in
     let here = get_or sheet.tokens.now c.args.from no_token in
     let this : token here ≡ word c.args.decl.now.name = rw c.bytes.ensures at (c.is_word.ensures.0 c.if-not-is_word.false) in
-    let found : slice_get (tokens_of sheet) c.args.from ≡ Some (word c.args.decl.now.name) = token_or_at token sheet.tokens.now c.args.from no_token l ∙ ap Some this in
+    let found : slice_get (tokens_of sheet) c.args.from ≡ Some (word c.args.decl.now.name) = get_mapped_or token sheet.tokens.now c.args.from no_token l ∙ ap Some this in
     if_ok c.in_splits.result _ _ (λ more f. name_read sheet (in_scope c.args.vars.now) c.requires.vars c.args.from c.args.to c.requires.range.1 c.args.m c.args.decl.now c.args.cat.0 _ _ _
     c.in_ok-number.ensures c.if-decl-cat.false lt found (rw c.as_slice.ensures at c.in_ok-all.ensures) (f 1))
     (rw c.as_slice-2.ensures at c.in_splits.ensures)

@@ -4,9 +4,10 @@ use Rattle.scheme_terms.specs.View.{scheme}
 use Rattle.rule_schemes.specs.Reading.{word}
 use Rattle.term_reader.specs.Splitting.{tokens_of}
 use Rattle.term_reader.specs.View.{token, in_scope}
-use Rattle.term_reader.proofs.SplitLemmas.{token_or_at, no_token}
+use Rattle.term_reader.proofs.SplitLemmas.{no_token}
 use Rattle.term_reader.proofs.VariableLemmas.{not_alone, no_word, variable_found, variable_lost}
 use Rattle.term_reader.proofs.reading.variables.Goals as goal
+use Rattle.binding_terms.proofs.Lists.{get_mapped_or}
 
 pub returns-then-to-from-ne1 : goal.returns-then-to-from-ne1
 returns-then-to-from-ne1 c =
@@ -23,7 +24,7 @@ returns-then-not-is_any_word c =
     let one : c.args.to - c.args.from ≡ 1 = omega arith in
     let lt : c.args.from < length tokens = omega arith in
     no_word (in_scope c.args.vars.now) c.args.cat.0 ts c.args.from c.args.to c.requires.range.0 within one (token (get_or tokens c.args.from no_token))
-    (token_or_at token tokens c.args.from no_token lt) (λ e. true≢false (sym (c.is_any_word.ensures.1 e) ∙ c.if-not-is_any_word.true))
+    (get_mapped_or token tokens c.args.from no_token lt) (λ e. true≢false (sym (c.is_any_word.ensures.1 e) ∙ c.if-not-is_any_word.true))
 
 pub returns-in-Some : goal.returns-in-Some
 returns-in-Some c =
@@ -34,7 +35,7 @@ returns-in-Some c =
     let lt : c.args.from < length tokens = omega arith in
     let here = get_or tokens c.args.from no_token in
     let read : slice_get ts c.args.from ≡ Some (word here.text.now) =
-    token_or_at token tokens c.args.from no_token lt ∙ ap (λ k. Some (k, here.text.now)) (c.is_any_word.ensures.0 c.if-not-is_any_word.false) in
+    get_mapped_or token tokens c.args.from no_token lt ∙ ap (λ k. Some (k, here.text.now)) (c.is_any_word.ensures.0 c.if-not-is_any_word.false) in
     variable_found (in_scope c.args.vars.now) c.args.cat.0 ts c.args.from c.args.to c.requires.range.0 within one here.text.now read (scheme c.in-Some.found)
     (rw c.as_bytes.ensures.value at c.in-Some.ensures)
 
@@ -47,6 +48,6 @@ returns-in-None c =
     let lt : c.args.from < length tokens = omega arith in
     let here = get_or tokens c.args.from no_token in
     let read : slice_get ts c.args.from ≡ Some (word here.text.now) =
-    token_or_at token tokens c.args.from no_token lt ∙ ap (λ k. Some (k, here.text.now)) (c.is_any_word.ensures.0 c.if-not-is_any_word.false) in
+    get_mapped_or token tokens c.args.from no_token lt ∙ ap (λ k. Some (k, here.text.now)) (c.is_any_word.ensures.0 c.if-not-is_any_word.false) in
     variable_lost (in_scope c.args.vars.now) c.args.cat.0 ts c.args.from c.args.to c.requires.range.0 within one here.text.now read
     (rw c.as_bytes.ensures.value at c.in-None.ensures)

@@ -3,10 +3,11 @@ use Rattle.rule_schemes.specs.Reading.{IsTerminal, word}
 use Rattle.binding_terms.specs.declared.grammar.Item.TheVariants.{Slot}
 use Rattle.term_reader.specs.Splitting.{tokens_of, Stands, IsHead, IsSplit, AreSplits, split}
 use Rattle.term_reader.specs.View.{token}
-use Rattle.term_reader.proofs.SplitLemmas.{same_splits, one_end_more, one_end_cut, word_splits, another_word, binder_splits, item_splits, token_or_at, no_token, if_ok}
+use Rattle.term_reader.proofs.SplitLemmas.{same_splits, one_end_more, one_end_cut, word_splits, another_word, binder_splits, item_splits, no_token, if_ok}
 use Rattle.term_reader.proofs.Pieces.{cannot_stand}
 use Rattle.term_reader.proofs.splitting.+splits.Goals as goal
 use Rattle.term_reader.proofs.splitting.+splits.Goals.{slot_splits-then-may+in_ok-more+in_ok-first+in_ok-add_before, slot_splits-else-may}
+use Rattle.binding_terms.proofs.Lists.{get_mapped_or}
 
 pub binder_splits-returns : goal.binder_splits-returns
 binder_splits-returns t c =
@@ -16,7 +17,7 @@ binder_splits-returns t c =
     let lt : c.args.from < c.args.to = omega arith in
     let here = get_or sheet.tokens.now c.args.from no_token in
     let this = c.is_binder.ensures.0 c.if-not-is_binder.false in
-    let at : slice_get ts c.args.from ≡ Some (token here) = token_or_at token sheet.tokens.now c.args.from no_token l in
+    let at : slice_get ts c.args.from ≡ Some (token here) = get_mapped_or token sheet.tokens.now c.args.from no_token l in
     let read : slice_get ts c.args.from ≡ Some (word here.text.now) = at ∙ ap (λ k. Some (k, here.text.now)) this.0 in
     rw (c.in_ok-add_before.ensures, c.in_ok-first.ensures, c.as_slice.ensures, c.new-all.ensures, c.as_bytes.ensures.value)
     (binder_splits (Stands sheet) sheet.sig.now ts c.args.to c.args.cat (drop c.args.at c.args.items.now) c.args.from here.text.now _ lt read this.1 c.in_ok-more.ensures)
@@ -67,7 +68,7 @@ splits-returns-then-not-is_terminal t c =
     rw c.new-then-not-is_terminal.ensures
     (item_splits (Stands sheet) sheet.sig.now ts c.args.to c.args.items.now c.args.at c.args.from c.index-items-at.result [] h c.index-items-at.is
     (rw c.in-Word.is (another_word (Stands sheet) sheet.sig.now ts c.args.to c.in-Word.text c.in-Word.quoted (drop (c.args.at + 1) c.args.items.now) c.args.from
-    (token here) (token_or_at token sheet.tokens.now c.args.from no_token l) other)))
+    (token here) (get_mapped_or token sheet.tokens.now c.args.from no_token l) other)))
 
 pub splits-returns-else-not-is_terminal : goal.splits-returns-else-not-is_terminal
 splits-returns-else-not-is_terminal t c =
@@ -80,7 +81,7 @@ splits-returns-else-not-is_terminal t c =
     let this : IsTerminal c.in-Word.text (token here) = rw c.bytes.ensures at (c.is_terminal.ensures.0 c.if-not-is_terminal.false) in
     if_ok c.splits.result _ _ (λ all s. item_splits (Stands sheet) sheet.sig.now ts c.args.to c.args.items.now c.args.at c.args.from c.index-items-at.result (map split all) h c.index-items-at.is
     (rw c.in-Word.is (word_splits (Stands sheet) sheet.sig.now ts c.args.to c.in-Word.text c.in-Word.quoted (drop (c.args.at + 1) c.args.items.now) c.args.from
-    (token here) (map split all) lt (token_or_at token sheet.tokens.now c.args.from no_token l) this s)))
+    (token here) (map split all) lt (get_mapped_or token sheet.tokens.now c.args.from no_token l) this s)))
     c.splits.ensures
 
 pub splits-returns-in-Slot : goal.splits-returns-in-Slot

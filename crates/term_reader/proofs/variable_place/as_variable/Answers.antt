@@ -8,15 +8,16 @@ use Rattle.term_reader.specs.Cases.{IsVariable}
 use Rattle.term_reader.specs.Firsts.{AreFirst}
 use Rattle.term_reader.specs.Splitting.{tokens_of}
 use Rattle.term_reader.specs.View.{token, in_scope}
-use Rattle.term_reader.proofs.SplitLemmas.{token_or_at, no_token}
+use Rattle.term_reader.proofs.SplitLemmas.{no_token}
 use Rattle.term_reader.proofs.VariableLemmas.{not_alone, no_word, variable_found, variable_lost}
 use Rattle.term_reader.proofs.Alone.{variable_first, variable_other}
 use Rattle.term_reader.proofs.variable_place.as_variable.Goals as goal
+use Rattle.binding_terms.proofs.Lists.{get_mapped_or}
 
 -- the word at a place
 word_here : (tokens : List Token) (n : ℕ) → n < length tokens → (token (get_or tokens n no_token)).0 ≡ 0
     → slice_get (map token tokens) n ≡ Some (word (get_or tokens n no_token).text.now)
-word_here tokens n lt e = token_or_at token tokens n no_token lt ∙ ap (λ k. Some (k, (get_or tokens n no_token).text.now)) e
+word_here tokens n lt e = get_mapped_or token tokens n no_token lt ∙ ap (λ k. Some (k, (get_or tokens n no_token).text.now)) e
 
 pub returns-then-to-from-ne1 : goal.returns-then-to-from-ne1
 returns-then-to-from-ne1 c =
@@ -33,7 +34,7 @@ returns-then-not-is_any_word c =
     let one : c.args.to - c.args.from ≡ 1 = omega arith in
     let lt : c.args.from < length tokens = omega arith in
     λ w s q. no_word (in_scope c.args.vars.now) c.args.cat.0 ts c.args.from c.args.to c.requires.range.0 within one (token (get_or tokens c.args.from no_token))
-    (token_or_at token tokens c.args.from no_token lt) (λ e. true≢false (sym (c.is_any_word.ensures.1 e) ∙ c.if-not-is_any_word.true)) w s q.0
+    (get_mapped_or token tokens c.args.from no_token lt) (λ e. true≢false (sym (c.is_any_word.ensures.1 e) ∙ c.if-not-is_any_word.true)) w s q.0
 
 pub returns-then-not-same_scheme : goal.returns-then-not-same_scheme
 returns-then-not-same_scheme c =

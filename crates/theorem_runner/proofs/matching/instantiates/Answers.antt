@@ -4,7 +4,6 @@ use Rattle.std.specs.List.{AllByRecursion}
 use Rattle.std.proofs.lemmas.Option.{slice_get_read, slice_get-map}
 use Rattle.scheme_terms.specs.Forms.{ContextValue}
 use Rattle.scheme_terms.specs.View.{names, context_value, ground_entry, instance}
-use Rattle.scheme_terms.proofs.Options.{match_from}
 use Rattle.pattern_unify.proofs.PlainSchemes.{all_at}
 use Rattle.rule_schemes.specs.Parts.{Parts}
 use Rattle.rule_schemes.specs.Plain.{IsPlainSystem}
@@ -12,11 +11,11 @@ use Rattle.rule_schemes.specs.View.{theory, statement}
 use Rattle.rule_schemes.specs.Statement.{Instantiates}
 use Rattle.core_proofs.specs.Kept.{kept_theory, kept_statements}
 use Rattle.core_proofs.specs.Provable.{IsProvable}
-use Rattle.core_proofs.proofs.RuleFitting.{mapped_some}
 use Rattle.theorem_runner.specs.Instances.{no_context_value, IsDerived, IsOnlyInstance}
 use Rattle.theorem_runner.specs.View.{input_trees}
 use Rattle.theorem_runner.proofs.Restricting.{instantiated}
 use Rattle.theorem_runner.proofs.matching.instantiates.Goals as goal
+use Rattle.binding_terms.proofs.Lists.{is_some_mapped, match_from}
 
 pub proof_scope-requires : goal.proof_scope-requires
 proof_scope-requires c =
@@ -61,4 +60,4 @@ returns c =
     (option_map instance c.in_ok-found.found) one in
     match_from (slice_get (kept_statements c.args.acc.now) c.args.theorem.0)
     (λ st. IsTrue c.is_some.result ↔ Instantiates (kept_theory c.args.acc.now) st no_context_value (input_trees c.args.inputs.now)) (statement c.index-of.result.now) there
-    (rw (c.is_some.ensures, ← mapped_some instance c.in_ok-found.found) is)
+    (rw (c.is_some.ensures, ← is_some_mapped instance c.in_ok-found.found) is)

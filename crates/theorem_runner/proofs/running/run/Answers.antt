@@ -2,7 +2,6 @@ use Rattle.std.proofs.Common.{◌≡◌, ◌<◌, ◌+◌, ◌++◌, ◌∷◌, 
 use Rattle.std.specs.Prelude.{option_map}
 use Rattle.std.proofs.lemmas.Option.{slice_get_read, slice_get-map}
 use Rattle.scheme_terms.specs.View.{names, context_value, instance}
-use Rattle.scheme_terms.proofs.Options.{match_at}
 use Rattle.pattern_unify.proofs.PlainSchemes.{all_at}
 use Rattle.rule_schemes.specs.Parts.{Parts}
 use Rattle.rule_schemes.specs.Plain.{IsPlainSystem}
@@ -18,6 +17,7 @@ use Rattle.theorem_runner.specs.Runs.{GoesOn}
 use Rattle.theorem_runner.specs.View.{input_trees}
 use Rattle.theorem_runner.proofs.Going.{starts, is_run}
 use Rattle.theorem_runner.proofs.running.run.Goals as goal
+use Rattle.binding_terms.proofs.Lists.{match_at}
 
 pub given_instance-requires-clause-provable : goal.given_instance-requires-clause-provable
 given_instance-requires-clause-provable c =

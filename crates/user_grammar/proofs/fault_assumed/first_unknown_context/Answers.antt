@@ -3,8 +3,9 @@ use Rattle.outline_reader.specs.Views.{portion_view}
 use Rattle.outline_reader.specs.declared.parts.Portion.{Portion}
 use Rattle.user_grammar.specs.Made.{plains}
 use Rattle.user_grammar.specs.Finding.{IsLeast, OfSome, UnknownContexts, portions_of}
-use Rattle.user_grammar.proofs.FaultLeast.{whole, least_more_item}
+use Rattle.user_grammar.proofs.FaultLeast.{least_more_item}
 use Rattle.user_grammar.proofs.fault_assumed.first_unknown_context.Goals as goal
+use Rattle.binding_terms.proofs.Lists.{whole_taken}
 
 pub loop-portion-preserved : goal.loop-portion-preserved
 loop-portion-preserved c =
@@ -13,5 +14,5 @@ loop-portion-preserved c =
 
 pub returns : goal.returns
 returns c =
-    whole (λ ps. IsLeast (OfSome (UnknownContexts (portions_of c.args.lists.now)) (plains ps)) c.loop-portion.found) c.args.lists.now.portions.now c.loop-portion.portion-index
+    whole_taken (λ ps. IsLeast (OfSome (UnknownContexts (portions_of c.args.lists.now)) (plains ps)) c.loop-portion.found) c.args.lists.now.portions.now c.loop-portion.portion-index
     c.loop-portion-test.false c.loop-portion.invariant

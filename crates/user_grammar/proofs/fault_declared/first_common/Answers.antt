@@ -1,10 +1,10 @@
 use Rattle.std.proofs.Common.{map}
 use Rattle.sy_base.specs.declared.fault.Code.TheVariants.{Duplicate}
 use Rattle.user_grammar.specs.Finding.{AtToken, IsCommon, IsLeast, declaration_view}
-use Rattle.user_grammar.proofs.FaultLeast.{whole}
 use Rattle.user_grammar.proofs.FaultDeclared.{least_no_common}
 use Rattle.user_grammar.proofs.FaultSeen.{seen_more}
 use Rattle.user_grammar.proofs.fault_declared.first_common.Goals as goal
+use Rattle.binding_terms.proofs.Lists.{whole_taken}
 
 pub loop-number-init : goal.loop-number-init
 loop-number-init c = (least_no_common, c.nothing_seen-seen.ensures)
@@ -15,4 +15,4 @@ loop-number-preserved c =
     c.common_found-found.ensures c.in_ok-see.ensures c.loop-number.invariant
 
 pub returns : goal.returns
-returns c = whole (λ ds. IsLeast (AtToken Duplicate (IsCommon (map declaration_view ds))) c.loop-number.found) c.args.all.now c.loop-number.number c.loop-number-test.false c.loop-number.invariant.0
+returns c = whole_taken (λ ds. IsLeast (AtToken Duplicate (IsCommon (map declaration_view ds))) c.loop-number.found) c.args.all.now c.loop-number.number c.loop-number-test.false c.loop-number.invariant.0

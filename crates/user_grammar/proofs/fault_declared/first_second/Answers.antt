@@ -1,8 +1,9 @@
 use Rattle.std.proofs.Common.{map}
 use Rattle.user_grammar.specs.Finding.{IsLeast, OfSome, portions_of, written_view}
-use Rattle.user_grammar.proofs.FaultLeast.{whole, least_more}
+use Rattle.user_grammar.proofs.FaultLeast.{least_more}
 use Rattle.user_grammar.proofs.FaultDeclared.{Seconds}
 use Rattle.user_grammar.proofs.fault_declared.first_second.Goals as goal
+use Rattle.binding_terms.proofs.Lists.{whole_taken}
 
 pub loop-written-preserved : goal.loop-written-preserved
 loop-written-preserved c =
@@ -11,5 +12,5 @@ loop-written-preserved c =
 
 pub returns : goal.returns
 returns c =
-    whole (λ ws. IsLeast (OfSome (Seconds (portions_of c.args.lists.now)) (map written_view ws)) c.loop-written.found) c.args.lists.now.categories.now c.loop-written.written-index
+    whole_taken (λ ws. IsLeast (OfSome (Seconds (portions_of c.args.lists.now)) (map written_view ws)) c.loop-written.found) c.args.lists.now.categories.now c.loop-written.written-index
     c.loop-written-test.false c.loop-written.invariant

@@ -1,9 +1,9 @@
 use Rattle.std.proofs.Common.{map}
 use Rattle.proof_lexer.specs.View.{token_view}
 use Rattle.user_grammar.specs.Finding.{AtToken, IsOneToken, IsLeast}
-use Rattle.user_grammar.proofs.FaultLeast.{whole}
 use Rattle.user_grammar.proofs.FaultDeclared.{token_more}
 use Rattle.user_grammar.proofs.fault_declared.first_token.Goals as goal
+use Rattle.binding_terms.proofs.Lists.{whole_taken}
 
 pub loop-name-preserved : goal.loop-name-preserved
 loop-name-preserved c =
@@ -12,4 +12,4 @@ loop-name-preserved c =
 
 pub returns : goal.returns
 returns c =
-    whole (λ ns. IsLeast (AtToken c.args.code (IsOneToken (map (λ name. token_view name.now) ns))) c.loop-name.found) c.args.names.now c.loop-name.name-index c.loop-name-test.false c.loop-name.invariant
+    whole_taken (λ ns. IsLeast (AtToken c.args.code (IsOneToken (map (λ name. token_view name.now) ns))) c.loop-name.found) c.args.names.now c.loop-name.name-index c.loop-name-test.false c.loop-name.invariant

@@ -1,7 +1,8 @@
 use Rattle.std.proofs.Common.{map, subst}
 use Rattle.user_grammar.specs.Finding.{IsLeast, OfSome, ShortOf, portions_of, written_view}
-use Rattle.user_grammar.proofs.FaultLeast.{whole, least_more}
+use Rattle.user_grammar.proofs.FaultLeast.{least_more}
 use Rattle.user_grammar.proofs.fault_form.first_short.Goals as goal
+use Rattle.binding_terms.proofs.Lists.{whole_taken}
 
 pub loop-written-preserved : goal.loop-written-preserved
 loop-written-preserved c =
@@ -12,4 +13,4 @@ pub returns : goal.returns
 returns c =
     let P = ShortOf (portions_of c.args.lists.now) in
     subst (λ ws. IsLeast (OfSome P ws) c.loop-written.found) c.requires.categories
-    (whole (λ ws. IsLeast (OfSome P (map written_view ws)) c.loop-written.found) c.args.lists.now.categories.now c.loop-written.written-index c.loop-written-test.false c.loop-written.invariant)
+    (whole_taken (λ ws. IsLeast (OfSome P (map written_view ws)) c.loop-written.found) c.args.lists.now.categories.now c.loop-written.written-index c.loop-written-test.false c.loop-written.invariant)

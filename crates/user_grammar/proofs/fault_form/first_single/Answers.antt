@@ -1,8 +1,9 @@
 use Rattle.std.proofs.Common.{map}
 use Rattle.outline_reader.specs.Plain.{plain_form}
 use Rattle.user_grammar.specs.Finding.{IsLeast, OfSome, SingleOf, portions_of}
-use Rattle.user_grammar.proofs.FaultLeast.{whole, least_more_seen}
+use Rattle.user_grammar.proofs.FaultLeast.{least_more_seen}
 use Rattle.user_grammar.proofs.fault_form.first_single.Goals as goal
+use Rattle.binding_terms.proofs.Lists.{whole_taken}
 
 pub loop-form-preserved : goal.loop-form-preserved
 loop-form-preserved c =
@@ -11,5 +12,5 @@ loop-form-preserved c =
 
 pub returns : goal.returns
 returns c =
-    whole (λ fs. IsLeast (OfSome (SingleOf (portions_of c.args.lists.now) c.args.written.now.name.now.text.now) (map plain_form (map (λ form. form.now) fs))) c.loop-form.found)
+    whole_taken (λ fs. IsLeast (OfSome (SingleOf (portions_of c.args.lists.now) c.args.written.now.name.now.text.now) (map plain_form (map (λ form. form.now) fs))) c.loop-form.found)
     c.args.written.now.forms.now c.loop-form.form-index c.loop-form-test.false c.loop-form.invariant

@@ -1,8 +1,9 @@
 use Rattle.std.proofs.Common.{map, subst}
 use Rattle.user_grammar.specs.Finding.{IsLeast, OfSome, portions_of, written_view}
 use Rattle.user_grammar.specs.FindingPlaces.{BadContextOf}
-use Rattle.user_grammar.proofs.FaultLeast.{whole, least_more}
+use Rattle.user_grammar.proofs.FaultLeast.{least_more}
 use Rattle.user_grammar.proofs.fault_front.first_bad_context.Goals as goal
+use Rattle.binding_terms.proofs.Lists.{whole_taken}
 
 pub loop-written-preserved : goal.loop-written-preserved
 loop-written-preserved c =
@@ -13,4 +14,4 @@ pub returns : goal.returns
 returns c =
     let P = BadContextOf (portions_of c.args.names.now.lists) in
     subst (λ ws. IsLeast (OfSome P ws) c.loop-written.found) c.requires.lists.categories
-    (whole (λ ws. IsLeast (OfSome P (map written_view ws)) c.loop-written.found) c.args.names.now.lists.categories.now c.loop-written.written-index c.loop-written-test.false c.loop-written.invariant)
+    (whole_taken (λ ws. IsLeast (OfSome P (map written_view ws)) c.loop-written.found) c.args.names.now.lists.categories.now c.loop-written.written-index c.loop-written-test.false c.loop-written.invariant)

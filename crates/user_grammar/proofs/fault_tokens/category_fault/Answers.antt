@@ -2,8 +2,9 @@ use Rattle.std.proofs.Common.{map}
 use Rattle.outline_reader.specs.Plain.{plain_form}
 use Rattle.user_grammar.specs.Finding.{IsLeast, OfSome, portions_of}
 use Rattle.user_grammar.specs.FindingPlaces.{TokensOf}
-use Rattle.user_grammar.proofs.FaultLeast.{whole, least_more_seen}
+use Rattle.user_grammar.proofs.FaultLeast.{least_more_seen}
 use Rattle.user_grammar.proofs.fault_tokens.category_fault.Goals as goal
+use Rattle.binding_terms.proofs.Lists.{whole_taken}
 
 pub loop-form-preserved : goal.loop-form-preserved
 loop-form-preserved c =
@@ -12,5 +13,5 @@ loop-form-preserved c =
 
 pub returns : goal.returns
 returns c =
-    whole (λ fs. IsLeast (OfSome (TokensOf (portions_of c.args.names.now.lists)) (map plain_form (map (λ form. form.now) fs))) c.loop-form.found)
+    whole_taken (λ fs. IsLeast (OfSome (TokensOf (portions_of c.args.names.now.lists)) (map plain_form (map (λ form. form.now) fs))) c.loop-form.found)
     c.args.written.now.forms.now c.loop-form.form-index c.loop-form-test.false c.loop-form.invariant

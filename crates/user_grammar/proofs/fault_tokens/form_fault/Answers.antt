@@ -3,8 +3,9 @@ use Rattle.outline_reader.specs.Plain.{plain_form}
 use Rattle.user_grammar.specs.Fault.{IsPlaceBehind, at_start}
 use Rattle.user_grammar.specs.Finding.{portions_of}
 use Rattle.user_grammar.specs.FindingPlaces.{walk_view}
-use Rattle.user_grammar.proofs.FaultTokens.{no_words_yet, among_none, form_more_rest, form_whole, place_more, binders_more, rest_is}
+use Rattle.user_grammar.proofs.FaultTokens.{no_words_yet, among_none, form_more_rest, form_whole, place_more, binders_more}
 use Rattle.user_grammar.proofs.fault_tokens.form_fault.Goals as goal
+use Rattle.binding_terms.proofs.Lists.{rest_taken}
 
 pub loop-number-init : goal.loop-number-init
 loop-number-init c =
@@ -22,7 +23,7 @@ loop-number-preserved c =
     let kept = c.loop-number.invariant in (
       place_more P form n _ (walk_view c.loop-number.walk) _ c.loop-number-test.true kept.0 c.in_ok-pass.ensures,
       binders_more P form n _ _ c.loop-number-test.true (c.in_ok-note_binder.ensures (plain_form (take n form)) kept.0 kept.1),
-      form_more_rest P form n _ (walk_view c.loop-number.walk) _ c.loop-number.found c.point_fault-one.result c.earlier-found.result c.loop-number-test.true (rest_is form (n + 1)) kept.0
+      form_more_rest P form n _ (walk_view c.loop-number.walk) _ c.loop-number.found c.point_fault-one.result c.earlier-found.result c.loop-number-test.true (rest_taken form (n + 1)) kept.0
           c.earlier-found.ensures kept.2 (c.point_fault-one.ensures (plain_form form) (plain_form (take n form)) c.in_ok-own.ensures kept.1),
     )
 

@@ -3,8 +3,9 @@ use Rattle.proof_lexer.specs.View.{token_view}
 use Rattle.outline_reader.specs.Plain.{plain_form}
 use Rattle.user_grammar.specs.Production.{AreItems}
 use Rattle.user_grammar.specs.Indexed.{names_in}
-use Rattle.user_grammar.proofs.MadeReadings.{slot_stands, binder_stands, terminal_stands, pushed_item}
+use Rattle.user_grammar.proofs.MadeReadings.{slot_stands, binder_stands, terminal_stands}
 use Rattle.user_grammar.proofs.made_forms.add_item.Goals as goal
+use Rattle.binding_terms.proofs.Lists.{pushed_item}
 
 pub returns-in_ok-add_slot-in-Slot-clause-added : goal.returns-in_ok-add_slot-in-Slot-clause-added
 returns-in_ok-add_slot-in-Slot-clause-added c = λ differ listed items words are.

@@ -1,8 +1,9 @@
 use Rattle.std.proofs.Common.{map}
 use Rattle.outline_reader.specs.Plain.{plain_form}
-use Rattle.user_grammar.proofs.MadeReadings.{found_none, production_form, pushed_item}
+use Rattle.user_grammar.proofs.MadeReadings.{found_none, production_form}
 use Rattle.user_grammar.specs.Indexed.{names_in}
 use Rattle.user_grammar.proofs.made_productions.add_form.Goals as goal
+use Rattle.binding_terms.proofs.Lists.{pushed_item}
 
 pub returns : goal.returns
 returns c = λ var forms own are.

@@ -1,9 +1,9 @@
 use Rattle.std.proofs.Common.{◌≡◌, map}
 use Rattle.user_grammar.specs.Indexed.{HaveSame, names_in}
 use Rattle.user_grammar.specs.Names.{AllDiffer}
-use Rattle.user_grammar.proofs.FaultLeast.{whole}
 use Rattle.user_grammar.proofs.NameIndexes.{same_more, order_more}
 use Rattle.user_grammar.proofs.name_index.indexed.Goals as goal
+use Rattle.binding_terms.proofs.Lists.{whole_taken}
 
 pub loop-text-preserved : goal.loop-text-preserved
 loop-text-preserved c = record {
@@ -12,9 +12,9 @@ loop-text-preserved c = record {
 }
 
 pub returns-clause-same : goal.returns-clause-same
-returns-clause-same c = whole (λ ts. HaveSame (names_in c.loop-text.index) (map (λ text. text.now) ts)) c.args.texts.now c.loop-text.text-index c.loop-text-test.false c.loop-text.invariant.same
+returns-clause-same c = whole_taken (λ ts. HaveSame (names_in c.loop-text.index) (map (λ text. text.now) ts)) c.args.texts.now c.loop-text.text-index c.loop-text-test.false c.loop-text.invariant.same
 
 pub returns-clause-in_order : goal.returns-clause-in_order
 returns-clause-in_order c =
-    whole (λ ts. AllDiffer (map (λ text. text.now) ts) → names_in c.loop-text.index ≡ map (λ text. text.now) ts) c.args.texts.now c.loop-text.text-index c.loop-text-test.false
+    whole_taken (λ ts. AllDiffer (map (λ text. text.now) ts) → names_in c.loop-text.index ≡ map (λ text. text.now) ts) c.args.texts.now c.loop-text.text-index c.loop-text-test.false
     c.loop-text.invariant.in_order

@@ -2,8 +2,9 @@ use Rattle.std.proofs.Common.{◌≡◌, ◌+◌, ◌∙◌, ap, subst, length, 
 use Rattle.std.proofs.lemmas.List.{length_push}
 use Rattle.binding_terms.specs.Draft.{drafted}
 use Rattle.binding_terms.specs.Reach.{IsColumn}
-use Rattle.binding_terms.proofs.Reaching.{AllNumbered-push, columns_are_table}
+use Rattle.binding_terms.proofs.Reaching.{columns_are_table}
 use Rattle.binding_terms.proofs.fitting.Draft.reach_table.Goals as goal
+use Rattle.binding_terms.proofs.Lists.{numbered_push}
 
 pub loop-number-preserved : goal.loop-number-preserved
 loop-number-preserved c =
@@ -14,7 +15,7 @@ loop-number-preserved c =
     subst (λ n. IsColumn sig n c.in_ok-column.field-0) (let e : c.loop-number.number ≡ 0 + length columns = omega arith in e) c.in_ok-column.ensures in
     record {
       long = ap length pushed ∙ length_push columns c.in_ok-column.field-0 ∙ ap (λ n. n + 1) c.loop-number.invariant.long;
-      columns = rw pushed (AllNumbered-push (IsColumn sig) 0 columns c.in_ok-column.field-0 c.loop-number.invariant.columns here);
+      columns = rw pushed (numbered_push (IsColumn sig) 0 columns c.in_ok-column.field-0 c.loop-number.invariant.columns here);
     }
 
 pub returns : goal.returns

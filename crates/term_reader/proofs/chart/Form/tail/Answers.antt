@@ -6,8 +6,9 @@ use Rattle.term_reader.specs.Charting.{charted}
 use Rattle.term_reader.specs.View.{token}
 use Rattle.term_reader.proofs.ChartLemmas.{no_word, no_binder}
 use Rattle.term_reader.proofs.ChartSteps.{go_on, rest_cannot, only_slot, first_slot, item_is}
-use Rattle.term_reader.proofs.SplitLemmas.{no_token, token_or_at}
+use Rattle.term_reader.proofs.SplitLemmas.{no_token}
 use Rattle.term_reader.proofs.chart.Form.tail.Goals as goal
+use Rattle.binding_terms.proofs.Lists.{get_mapped_or}
 
 pub returns-then-is_terminal : goal.returns-then-is_terminal
 returns-then-is_terminal c e =
@@ -18,7 +19,7 @@ returns-then-is_terminal c e =
     slice_get_read c.args.self.now.sig.now.prods _ c.args.prod prod refl c.requires.prod (rw c.prods.ensures.value at c.index.ensures) in
     let h : c.args.to ≤ length (map token tokens) = omega (arith, c.requires.range.1, length-map tokens token) in
     let lt : c.args.from < length tokens = omega (arith, c.requires.range.0, c.requires.range.1) in
-    let at = token_or_at token tokens c.args.from no_token lt in
+    let at = get_mapped_or token tokens c.args.from no_token lt in
     let first = token (get_or tokens c.args.from no_token) in
     let long = ap length c.as_slice-items.ensures in
     let left : c.args.item < length c.as_slice-items.result.now = omega (arith, c.if-item-items.false) in
@@ -38,7 +39,7 @@ returns-else-is_terminal c e =
     slice_get_read c.args.self.now.sig.now.prods _ c.args.prod prod refl c.requires.prod (rw c.prods.ensures.value at c.index.ensures) in
     let h : c.args.to ≤ length (map token tokens) = omega (arith, c.requires.range.1, length-map tokens token) in
     let lt : c.args.from < length tokens = omega (arith, c.requires.range.0, c.requires.range.1) in
-    let at = token_or_at token tokens c.args.from no_token lt in
+    let at = get_mapped_or token tokens c.args.from no_token lt in
     let first = token (get_or tokens c.args.from no_token) in
     let is = item_is prod.items _ c.args.item c.index-items-item.result (Word c.in-Word.text c.in-Word.quoted) c.as_slice-items.ensures c.index-items-item.is c.in-Word.is in
     go_on f c.args.prod c.args.item c.args.from c.args.to prod (Word c.in-Word.text c.in-Word.quoted) found is
@@ -54,7 +55,7 @@ returns-then-is_binder c e =
     slice_get_read c.args.self.now.sig.now.prods _ c.args.prod prod refl c.requires.prod (rw c.prods.ensures.value at c.index.ensures) in
     let h : c.args.to ≤ length (map token tokens) = omega (arith, c.requires.range.1, length-map tokens token) in
     let lt : c.args.from < length tokens = omega (arith, c.requires.range.0, c.requires.range.1) in
-    let at = token_or_at token tokens c.args.from no_token lt in
+    let at = get_mapped_or token tokens c.args.from no_token lt in
     let first = token (get_or tokens c.args.from no_token) in
     let long = ap length c.as_slice-items.ensures in
     let left : c.args.item < length c.as_slice-items.result.now = omega (arith, c.if-item-items.false) in
@@ -74,7 +75,7 @@ returns-else-is_binder c e =
     slice_get_read c.args.self.now.sig.now.prods _ c.args.prod prod refl c.requires.prod (rw c.prods.ensures.value at c.index.ensures) in
     let h : c.args.to ≤ length (map token tokens) = omega (arith, c.requires.range.1, length-map tokens token) in
     let lt : c.args.from < length tokens = omega (arith, c.requires.range.0, c.requires.range.1) in
-    let at = token_or_at token tokens c.args.from no_token lt in
+    let at = get_mapped_or token tokens c.args.from no_token lt in
     let first = token (get_or tokens c.args.from no_token) in
     let is = item_is prod.items _ c.args.item c.index-items-item.result (Binder c.in-Binder.cat) c.as_slice-items.ensures c.index-items-item.is c.in-Binder.is in
     go_on f c.args.prod c.args.item c.args.from c.args.to prod (Binder c.in-Binder.cat) found is

@@ -2,10 +2,11 @@ use Rattle.std.proofs.Common.{get_or}
 use Rattle.rule_schemes.specs.Reading.{punctuation}
 use Rattle.term_reader.specs.Splitting.{tokens_of}
 use Rattle.term_reader.specs.View.{token}
-use Rattle.term_reader.proofs.SplitLemmas.{at_place, token_or_at, no_token}
+use Rattle.term_reader.proofs.SplitLemmas.{no_token}
 use Rattle.term_reader.proofs.sheet.Sheet.has.Goals as goal
+use Rattle.binding_terms.proofs.Lists.{get_mapped_or, get_test}
 
 pub returns : goal.returns
 returns c =
-    at_place (tokens_of c.args.self.now) c.args.place (token (get_or c.args.self.now.tokens.now c.args.place no_token)) (punctuation c.args.code) c.is_punctuation.result
-    (token_or_at token c.args.self.now.tokens.now c.args.place no_token c.requires) c.is_punctuation.ensures
+    get_test (tokens_of c.args.self.now) c.args.place (token (get_or c.args.self.now.tokens.now c.args.place no_token)) (punctuation c.args.code) c.is_punctuation.result
+    (get_mapped_or token c.args.self.now.tokens.now c.args.place no_token c.requires) c.is_punctuation.ensures
