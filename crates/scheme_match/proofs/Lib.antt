@@ -1,10 +1,8 @@
-pub mod Categories
+pub mod Asking
 pub mod Contexts
-pub mod Firsts
-pub mod Joining
+pub mod Entries
+pub mod Fitting
+pub mod Lists
 pub mod OnlyMatch
 pub mod PairLemmas
-pub mod Places
-pub mod PlainPatterns
 pub mod Scopes
-pub mod Solving

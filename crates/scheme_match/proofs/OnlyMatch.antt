@@ -1,125 +1,127 @@
--- The instance that gives each metavariable what is asked of it is the only one that makes the pairs equal.
-use Rattle.std.proofs.Common.{◌≡◌, ◌⊎◌, ℕ, ◌+◌, ◌<◌, ◌≤◌, List, [], ◌∷◌, ◌++◌, length, map, reverse, Option, Some, None, MatchOption, slice_get, unwrap_or, inl, inr, refl, ap, ◌∙◌, sym, subst, arith}
-use Rattle.std.specs.List.{AllByRecursion}
+-- The instance that gives each metavariable what is asked of it is the only one that can make the pairs equal.
+use Rattle.std.proofs.Common.{◌≡◌, ◌⊎◌, ℕ, suc, ◌+◌, ◌<◌, ◌≤◌, List, [], ◌∷◌, length, map, Option, Some, None, MatchOption, slice_get, unwrap_or, inl, inr, refl, ap, ◌∙◌, sym, subst, arith}
+use Rattle.std.specs.List.{AllByRecursion, AllZip}
 use Rattle.std.proofs.lemmas.Bool.{cases_lt}
 use Rattle.std.proofs.lemmas.Option.{slice_get_within, slice_get_past}
 use Rattle.std.proofs.lemmas.Slice.Zip.{AllZip-long}
 use Rattle.binding_terms.specs.Numbered.{AnyByRecursion}
 use Rattle.binding_terms.specs.Tree.{Tree, var}
-use Rattle.binding_terms.specs.Scope.{IsTerm}
-use Rattle.scheme_terms.specs.Forms.{Instance}
-use Rattle.scheme_terms.specs.Context.{scope_of}
+use Rattle.binding_terms.proofs.Lists.{some_within, numbered_at}
+use Rattle.scheme_terms.specs.Forms.{ContextValue, Instance}
+use Rattle.scheme_terms.specs.Embedding.{embedded}
 use Rattle.scheme_terms.specs.Instance.{value_of, IsMetaValue}
 use Rattle.scheme_terms.specs.declared.scheme.MetaDecl.{MetaDecl}
+use Rattle.scheme_terms.proofs.Embeddings.{embedded_injective}
+use Rattle.scheme_terms.proofs.Options.{zip_at}
 use Rattle.scheme_match.specs.Matching.{Matching, IsMatching, IsMatch, IsOnlyMatch, StrictInPair, AreStrict}
-use Rattle.scheme_match.specs.Demands.{all_demands, HeadsAgree, first_for, Agree, values_from, solution}
-use Rattle.scheme_match.proofs.Categories.{OfItsCategory}
-use Rattle.scheme_match.proofs.Firsts.{first_found, first_so, agree_from_met}
-use Rattle.scheme_match.proofs.PairLemmas.{heads_all, met_all, of_category_all, asks_all}
-use Rattle.scheme_match.proofs.Places.{numbered_at, zipped, values_at, length_values, same_lists, within, zip_at}
-use Rattle.scheme_match.proofs.PlainPatterns.{all_at}
-use Rattle.scheme_match.proofs.Solving.{Met, Each, Asks}
+use Rattle.scheme_match.specs.Demands.{PairsDemand, IsAsked, AreAsked, Becomes}
+use Rattle.scheme_match.proofs.PairLemmas.{all_become, all_equal, pairs_value, pairs_strict, pairs_typed}
 
-value_of-set : (inst : Instance) (m : ℕ) (t : Tree) → slice_get inst.metas m ≡ Some (Some t) → value_of inst m ≡ t
-value_of-set inst m t e = ap (λ o. unwrap_or (unwrap_or o None) (var 0)) e
+-- two lists with the same elements
+same_lists : {A : Type 0} (xs ys : List A) → ((k : ℕ) → slice_get xs k ≡ slice_get ys k) → xs ≡ ys
+same_lists [] [] h = refl
+same_lists [] (y ∷ ys) h = let e = h 0 in cc
+same_lists (x ∷ xs) [] h = let e = h 0 in cc
+same_lists (x ∷ xs) (y ∷ ys) h =
+    let first : Some x ≡ Some y = h 0 in
+    let rest : xs ≡ ys = same_lists xs ys (λ k. h (suc k)) in
+    cc
 
-module _ (m : Matching) (ok : IsMatching m) where
-  pub heads_of : (inst : Instance) → IsMatch m inst → AllByRecursion (HeadsAgree m.root) m.pairs
-  heads_of inst is = heads_all m.sig m.metas m.root ok.slots ok.metas inst is.root m.pairs ok.pairs is.pairs
+zip_from_places : {A B : Type 0} (R : A → B → Type 0) (xs : List A) (ys : List B) → length ys ≡ length xs →
+    ((k : ℕ) (x : A) (y : B) → slice_get xs k ≡ Some x → slice_get ys k ≡ Some y → R x y) → AllZip R xs ys
+zip_from_places R [] [] long h = tt
+zip_from_places R [] (y ∷ ys) long h = absurd (omega (arith, long))
+zip_from_places R (x ∷ xs) [] long h = absurd (omega (arith, long))
+zip_from_places R (x ∷ xs) (y ∷ ys) long h = (h 0 x y refl refl, zip_from_places R xs ys (omega (arith, long)) (λ k. h (suc k)))
 
-  met_by : (inst : Instance) → IsMatch m inst → Met inst (all_demands m.pairs)
-  met_by inst is = (met_all m.sig m.metas m.root ok.slots ok.metas inst is.root m.pairs ok.pairs (heads_of inst is)).1 is.pairs
+set_value : (inst : Instance) (m : ℕ) (o : Option Tree) (t : Tree) → slice_get inst.metas m ≡ Some o → o ≡ Some t → value_of inst m ≡ t
+set_value inst m o t e f = ap (λ x. unwrap_or (unwrap_or x None) (var 0)) (e ∙ ap Some f)
 
-  pub none_with_heads : (AllByRecursion (HeadsAgree m.root) m.pairs → ⊥) → IsOnlyMatch m None
-  none_with_heads other inst is = other (heads_of inst is)
+given : {P : Tree → Type 0} (o : Option Tree) → MatchOption o ⊥ P → (t : Tree) × (o ≡ Some t) × P t
+given None h = absurd h
+given (Some t) h = (t, refl, h)
 
-  pub none_matches : all_demands m.pairs ≡ None → IsOnlyMatch m None
-  none_matches e inst is = subst (Met inst) e (met_by inst is)
+module _ (m : Matching) (ok : IsMatching m) (strict : AreStrict m) where
+  become : (inst : Instance) → IsMatch m inst → AllByRecursion (Becomes inst) m.pairs
+  become inst is = all_become m.sig ok.sig_fits m.metas m.root inst is.root m.pairs is.pairs
 
-  module _ (ds : List (ℕ × Tree)) (is : all_demands m.pairs ≡ Some ds) where
-    pub none_agrees : (Agree ds → ⊥) → IsOnlyMatch m None
-    none_agrees other inst match = other (agree_from_met (value_of inst) ds (subst (Met inst) is (met_by inst match)))
+  strict_at : (k : ℕ) (decl : MetaDecl) → slice_get m.metas k ≡ Some decl → AnyByRecursion (StrictInPair k) m.pairs
+  strict_at k decl e =
+      subst (λ n. AnyByRecursion (StrictInPair n) m.pairs) (let z : 0 + k ≡ k = omega arith in z)
+      (numbered_at (λ n decl. AnyByRecursion (StrictInPair n) m.pairs) 0 m.metas k decl strict e)
 
-    module _ (strict : AreStrict m) (heads : AllByRecursion (HeadsAgree m.root) m.pairs) where
-      of_category_ones : AllByRecursion (OfItsCategory m.sig m.metas (scope_of m.sig m.root)) ds
-      of_category_ones =
-          subst (Each (OfItsCategory m.sig m.metas (scope_of m.sig m.root))) is (of_category_all m.sig m.metas m.root ok.slots ok.metas m.pairs ok.pairs heads)
+  -- where nothing is asked of a metavariable, no pairs become equal
+  pub none_unasked : AreAsked m.root m.pairs m.metas None → IsOnlyMatch m None
+  none_unasked unasked inst is =
+      let decl = some_within m.metas unasked.0 unasked.1 in
+      let found = pairs_strict m.sig ok.sig_fits m.metas m.root inst is.root unasked.0 m.pairs (become inst is) (strict_at unasked.0 decl.0 decl.1) in
+      unasked.2 found.0 found.1
 
-      -- each metavariable has a first demand
-      strict_at : (k : ℕ) (decl : MetaDecl) → slice_get m.metas k ≡ Some decl → (t : Tree) × (first_for k ds ≡ Some t)
-      strict_at k decl e =
-          let place : AnyByRecursion (StrictInPair k) m.pairs =
-          subst (λ n. AnyByRecursion (StrictInPair n) m.pairs) (let z : 0 + k ≡ k = omega arith in z)
-          (numbered_at (λ n decl. AnyByRecursion (StrictInPair n) m.pairs) 0 m.metas k decl strict e) in
-          first_found k ds (subst (Asks k) is (asks_all m.sig m.metas m.root ok.slots ok.metas k m.pairs ok.pairs place))
+  module _ (values : List (Option Tree)) (asked : AreAsked m.root m.pairs m.metas (Some values)) where
+    abbrev pub candidate : Instance
+    candidate = record { metas = values; knowns = map Some m.knowns; root = m.root }
 
-      value_at : (k : ℕ) (t : Tree) → k < length m.metas → first_for k ds ≡ Some t → value_of (solution ds m.metas m.root) k ≡ t
-      value_at k t h e = value_of-set (solution ds m.metas m.root) k t (values_at ds m.metas k h ∙ ap Some e)
+    asked_at : (k : ℕ) (o : Option Tree) → slice_get values k ≡ Some o → (t : Tree) × (o ≡ Some t) × PairsDemand m.root k m.pairs (embedded t)
+    asked_at k o e =
+        given o (subst (λ n. IsAsked m.root m.pairs n o) (let z : 0 + k ≡ k = omega arith in z) (numbered_at (IsAsked m.root m.pairs) 0 values k o asked.1 e))
 
-      below_metas : (d : ℕ × Tree) → OfItsCategory m.sig m.metas (scope_of m.sig m.root) d → d.0 < length m.metas
-      below_metas d h = at (slice_get m.metas d.0) refl h
-        where
-          at : (o : Option MetaDecl) → slice_get m.metas d.0 ≡ o → MatchOption o ⊥ (λ decl. IsTerm m.sig (scope_of m.sig m.root) decl.cat.0 d.1) → d.0 < length m.metas
-          at None e k = absurd k
-          at (Some decl) e k = slice_get_within m.metas d.0 decl e
+    -- a match gives each metavariable what is asked of it
+    same_at : (inst : Instance) → IsMatch m inst → (k : ℕ) (o : Option Tree) → slice_get values k ≡ Some o → slice_get inst.metas k ≡ Some o
+    same_at inst is k o e =
+        let at = asked_at k o e in
+        let decl = some_within m.metas k (omega (arith, asked.0, slice_get_within values k o e)) in
+        let there = zip_at (IsMetaValue m.sig inst) m.metas inst.metas is.metas k decl.0 decl.1 in
+        let own = given there.0 there.2 in
+        let value : value_of inst k ≡ own.0 = set_value inst k there.0 own.0 there.1 own.1 in
+        let same : own.0 ≡ at.0 = embedded_injective own.0 at.0 (ap embedded (sym value)
+        ∙ pairs_value m.sig ok.sig_fits m.metas m.root inst is.root k m.pairs (embedded at.0) ok.pairs (become inst is) at.2) in
+        there.1 ∙ ap Some (own.1 ∙ ap Some same ∙ sym at.1)
 
-      met_by_solution : (es : List (ℕ × Tree)) → AllByRecursion (OfItsCategory m.sig m.metas (scope_of m.sig m.root)) es →
-          AllByRecursion (λ d. first_for d.0 ds ≡ Some d.1) es → AllByRecursion (λ d. value_of (solution ds m.metas m.root) d.0 ≡ d.1) es
-      met_by_solution [] h g = tt
-      met_by_solution (d ∷ es) h g = (value_at d.0 d.1 (below_metas d h.0) g.0, met_by_solution es h.1 g.1)
+    metas_same : (inst : Instance) → IsMatch m inst → inst.metas ≡ values
+    metas_same inst is = same_lists inst.metas values (λ k. at k (cases_lt k (length values)))
+      where
+        at : (k : ℕ) → (k < length values) ⊎ (length values ≤ k) → slice_get inst.metas k ≡ slice_get values k
+        at k (inl h) = let here = some_within values k h in same_at inst is k here.0 here.1 ∙ sym here.1
+        at k (inr h) =
+            slice_get_past inst.metas k (omega (arith, asked.0, h, AllZip-long (IsMetaValue m.sig inst) m.metas inst.metas is.metas))
+            ∙ sym (slice_get_past values k h)
 
-      value_here : (k : ℕ) (decl : MetaDecl) → slice_get m.metas k ≡ Some decl → IsMetaValue m.sig (solution ds m.metas m.root) decl (first_for k ds)
-      value_here k decl e =
-          let first = strict_at k decl e in
-          let none : decl.params ≡ [] = all_at (λ d. d.params ≡ []) m.metas k decl ok.metas e in
-          let own : IsTerm m.sig (scope_of m.sig m.root) decl.cat.0 first.0 =
-          subst (λ o. MatchOption o ⊥ (λ d. IsTerm m.sig (scope_of m.sig m.root) d.cat.0 first.0)) e
-          (first_so (λ n t. OfItsCategory m.sig m.metas (scope_of m.sig m.root) (n, t)) k first.0 ds of_category_ones first.1) in
-          subst (IsMetaValue m.sig (solution ds m.metas m.root) decl) (sym first.1)
-          (subst (λ ps. IsTerm m.sig (reverse (map (λ c. c.0) ps) ++ scope_of m.sig m.root) decl.cat.0 first.0) (sym none) own)
+    only_one : (inst : Instance) → IsMatch m inst → inst ≡ candidate
+    only_one inst is =
+        let first = metas_same inst is in
+        let second = is.knowns in
+        let third = is.root in
+        λ i. record { metas = first i; knowns = second i; root = third i }
 
-      solution_matches : Agree ds → IsMatch m (solution ds m.metas m.root)
-      solution_matches agree = record {
+    -- where it fails, none matches
+    pub none_becomes : (AllByRecursion (Becomes candidate) m.pairs → ⊥) → IsOnlyMatch m None
+    none_becomes fails inst is = fails (subst (λ i. AllByRecursion (Becomes i) m.pairs) (only_one inst is) (become inst is))
+
+    candidate_value : AllByRecursion (Becomes candidate) m.pairs → (k : ℕ) (decl : MetaDecl) (o : Option Tree) → slice_get m.metas k ≡ Some decl → slice_get values k ≡ Some o →
+        IsMetaValue m.sig candidate decl o
+    candidate_value all k decl o e f =
+        let at = asked_at k o f in
+        let typed = pairs_typed m.sig ok.sig_fits m.metas m.root candidate refl k decl e m.pairs ok.pairs all (strict_at k decl e) in
+        subst (IsMetaValue m.sig candidate decl) (ap Some (set_value candidate k o at.0 f at.1) ∙ sym at.1) typed
+
+    -- where it makes the pairs equal, it is the one
+    pub one_becomes : AllByRecursion (Becomes candidate) m.pairs → IsOnlyMatch m (Some candidate)
+    one_becomes all = (
+      record {
         root = refl;
-        metas = zipped (IsMetaValue m.sig (solution ds m.metas m.root)) ds 0 m.metas
-            (λ k decl e. subst (λ j. IsMetaValue m.sig (solution ds m.metas m.root) decl (first_for j ds)) (let z : k ≡ 0 + k = omega arith in z) (value_here k decl e));
-        knowns = ap (map Some) (sym ok.knowns);
-        pairs = (met_all m.sig m.metas m.root ok.slots ok.metas (solution ds m.metas m.root) refl m.pairs ok.pairs heads).0
-            (subst (Met (solution ds m.metas m.root)) (sym is) (met_by_solution ds of_category_ones agree));
-      }
+        metas = zip_from_places (IsMetaValue m.sig candidate) m.metas values asked.0 (candidate_value all);
+        knowns = refl;
+        pairs = all_equal m.sig ok.sig_fits m.metas m.root candidate refl m.pairs ok.pairs all;
+      },
+      only_one,
+    )
 
-      given : (decl : MetaDecl) (inst : Instance) (o : Option Tree) → IsMetaValue m.sig inst decl o → (t : Tree) × (o ≡ Some t)
-      given decl inst None h = absurd h
-      given decl inst (Some t) h = (t, refl)
+    pub candidate_is : (knowns : List (Option ℕ)) (root : ContextValue) → knowns ≡ map Some m.knowns → root ≡ m.root →
+        ◌≡◌ {A = Instance} (record { metas = values; knowns = knowns; root = root }) candidate
+    candidate_is knowns root e f = λ i. record { metas = values; knowns = e i; root = f i }
 
-      same_at : (other : Instance) → IsMatch m other → (k : ℕ) (decl : MetaDecl) → slice_get m.metas k ≡ Some decl →
-          slice_get other.metas k ≡ slice_get (values_from ds 0 m.metas) k
-      same_at other match k decl e =
-          let first = strict_at k decl e in
-          let there = zip_at (IsMetaValue m.sig other) m.metas other.metas k decl match.metas e in
-          let set = given decl other there.0 there.2 in
-          let value : value_of other k ≡ first.0 = first_so (λ n t. value_of other n ≡ t) k first.0 ds (subst (Met other) is (met_by other match)) first.1 in
-          let read : value_of other k ≡ set.0 = value_of-set other k set.0 (there.1 ∙ ap Some set.1) in
-          there.1 ∙ ap Some (set.1 ∙ ap Some (sym read ∙ value) ∙ sym first.1) ∙ sym (values_at ds m.metas k (slice_get_within m.metas k decl e))
+    pub none_becomes_as : (inst : Instance) → inst ≡ candidate → (AllByRecursion (Becomes inst) m.pairs → ⊥) → IsOnlyMatch m None
+    none_becomes_as inst e fails = none_becomes (λ all. fails (subst (λ i. AllByRecursion (Becomes i) m.pairs) (sym e) all))
 
-      metas_same : (other : Instance) → IsMatch m other → other.metas ≡ values_from ds 0 m.metas
-      metas_same other match = same_lists other.metas (values_from ds 0 m.metas) (λ k. at k (cases_lt k (length m.metas)))
-        where
-          at : (k : ℕ) → (k < length m.metas) ⊎ (length m.metas ≤ k) → slice_get other.metas k ≡ slice_get (values_from ds 0 m.metas) k
-          at k (inl h) = let decl = within m.metas k h in same_at other match k decl.0 decl.1
-          at k (inr h) =
-              slice_get_past other.metas k (omega (arith, AllZip-long (IsMetaValue m.sig other) m.metas other.metas match.metas))
-              ∙ sym (slice_get_past (values_from ds 0 m.metas) k (omega (arith, length_values ds 0 m.metas)))
-
-      only_one : (other : Instance) → IsMatch m other → other ≡ solution ds m.metas m.root
-      only_one other match =
-          let first = metas_same other match in
-          let second : other.knowns ≡ [] = match.knowns ∙ ap (map Some) ok.knowns in
-          let third = match.root in
-          λ i. record { metas = first i; knowns = second i; root = third i }
-
-      pub one_matches : Agree ds → IsOnlyMatch m (Some (solution ds m.metas m.root))
-      one_matches agree = (solution_matches agree, only_one)
-
-      pub one_matches_as : (inst : Instance) → inst ≡ solution ds m.metas m.root → Agree ds → IsOnlyMatch m (Some inst)
-      one_matches_as inst e agree = subst (λ i. IsOnlyMatch m (Some i)) (sym e) (one_matches agree)
+    pub one_becomes_as : (inst : Instance) → inst ≡ candidate → AllByRecursion (Becomes inst) m.pairs → IsOnlyMatch m (Some inst)
+    one_becomes_as inst e all = subst (λ i. IsOnlyMatch m (Some i)) (sym e) (one_becomes (subst (λ i. AllByRecursion (Becomes i) m.pairs) e all))

@@ -1,164 +1,201 @@
--- What the demands of a pair say about the instances that make it equal.
-use Rattle.std.proofs.Common.{◌≡◌, ◌↔◌, ℕ, List, [], ◌∷◌, ◌++◌, length, map, inl, inr, refl, ap, ◌∙◌, sym, subst}
+-- What a pair asks of metavariables, where it becomes equal.
+use Rattle.std.proofs.Common.{◌≡◌, ℕ, ◌+◌, List, [], ◌∷◌, ◌++◌, length, map, drop, Some, None, slice_get, inl, inr, refl, ap, ◌∙◌, sym, subst, arith}
 use Rattle.std.specs.List.{AllByRecursion}
-use Rattle.std.proofs.lemmas.List.{append-nil}
+use Rattle.std.proofs.lemmas.List.{drop_at}
+use Rattle.std.proofs.lemmas.Option.{same_Some}
 use Rattle.binding_terms.specs.Numbered.{AnyByRecursion}
+use Rattle.binding_terms.specs.Signature.{Signature, Place, Fits}
 use Rattle.binding_terms.specs.Tree.{Tree}
-use Rattle.binding_terms.specs.Signature.{Signature, Place}
-use Rattle.scheme_terms.specs.SchemeTree.{SchemeTree, StrictIn}
-use Rattle.scheme_terms.specs.Forms.{Names, SchemeContext, SchemeEntry, ContextValue, Instance}
-use Rattle.scheme_terms.specs.Context.{AreArguments, scope_of}
-use Rattle.scheme_terms.specs.Instance.{instance_of, context_instance, root_entries, entries_instance, root_cat}
-use Rattle.scheme_terms.specs.SchemeScope.{AreSchemes}
+use Rattle.binding_terms.specs.Scope.{IsTerm}
+use Rattle.scheme_terms.specs.SchemeTree.{SchemeTree}
+use Rattle.scheme_terms.specs.Forms.{Names, SchemeEntry, ContextValue, Instance}
+use Rattle.scheme_terms.specs.Context.{IsValue, AreEntries, AreArguments, scope_after, scope_of}
+use Rattle.scheme_terms.specs.Instance.{instance_of, root_entries, entries_instance, root_cat, value_of}
+use Rattle.scheme_terms.specs.SchemeScope.{AreSchemes, IsRoot, AreSchemeEntries, AreExplicitEntries, entry_variables, params_scope}
+use Rattle.scheme_terms.specs.Substituting.{LocalsBelow}
+use Rattle.scheme_terms.specs.Embedding.{embedded}
 use Rattle.scheme_terms.specs.declared.scheme.MetaDecl.{MetaDecl}
 use Rattle.scheme_terms.specs.declared.scheme.Root.{Root}
 use Rattle.scheme_terms.specs.declared.scheme.Root.TheVariants.{Closed, Empty, Whole}
-use Rattle.rule_schemes.specs.Rules.{JudgmentScheme, JudgmentValue, AreClosed, StrictInEntries}
-use Rattle.scheme_match.specs.Plain.{NothingBinds, HaveNoParameters}
-use Rattle.scheme_match.specs.Matching.{Matched, judgments, terms, ArgumentsFit, PairFits, MakesEqual, StrictInPair}
-use Rattle.scheme_match.specs.Demands.{demands, list_demands, pair_demands, all_demands, bare_entries, bare_context, HeadsAgree}
-use Rattle.scheme_match.proofs.Categories.{OfItsCategory, of_category, of_category_list}
-use Rattle.scheme_match.proofs.PlainPatterns.{IsPlain, plain_scheme}
-use Rattle.scheme_match.proofs.Scopes.{wider, closed_arguments}
-use Rattle.scheme_match.proofs.Solving.{Met, met_joined, met_demands, Each, each_joined, Asks, asks_first, asks_later, asks_strict}
+use Rattle.scheme_terms.proofs.Makings.{instance_making, demand_is_value, strict_demands}
+use Rattle.scheme_terms.proofs.SchemeFacts.{scheme_below}
+use Rattle.rule_schemes.specs.Rules.{JudgmentScheme, JudgmentValue, judgment_instance, AreClosed}
+use Rattle.scheme_match.specs.Matching.{Matched, judgments, terms, JudgmentsFit, PairFits, MakesEqual, StrictInPair}
+use Rattle.scheme_match.specs.Demands.{entries_over, PairDemands, PairsDemand, Becomes}
+use Rattle.scheme_match.proofs.Contexts.{over_root}
+use Rattle.scheme_match.proofs.Entries.{AddOne, add_one, entries_behind, scope_append, entries_strict, entries_value, entries_long, entries_scope, entries_typed}
+use Rattle.scheme_match.proofs.Lists.{schemes_below, list_value, list_strict, list_typed, one_typed}
+use Rattle.scheme_match.proofs.Scopes.{closed_arguments}
 
--- lists of patterns and of terms
-met_list : (inst : Instance) (ss : List SchemeTree) (ts : List Tree) → AllByRecursion IsPlain ss →
-    Met inst (list_demands ss ts) ↔ (map (instance_of inst 0) ss ≡ ts)
-met_list inst [] [] h = (λ k. refl, λ k. tt)
-met_list inst [] (t ∷ ts) h = (λ k. absurd k, λ k. cc)
-met_list inst (s ∷ ss) [] h = (λ k. absurd k, λ k. cc)
-met_list inst (s ∷ ss) (t ∷ ts) h =
-    let both = met_joined inst (demands s t) (list_demands ss ts) in
-    let first = met_demands inst s t h.0 in
-    let rest = met_list inst ss ts h.1 in (
-      λ k. let here : instance_of inst 0 s ≡ t = first.0 (both.0 k).0 in
-          let there : map (instance_of inst 0) ss ≡ ts = rest.0 (both.0 k).1 in
-          cc,
-      λ k. let here : instance_of inst 0 s ≡ t = cc in
-          let there : map (instance_of inst 0) ss ≡ ts = cc in
-          both.1 (first.1 here, rest.1 there),
-    )
+-- the entries of a value of a category
+of_category : (sig : Signature) (own : Root) (v : ContextValue) (c : ℕ) → IsValue sig own v → Some c ≡ v.cat → AreEntries sig c [] v.entries
+of_category sig Closed v c is e = absurd (let no : Some c ≡ None = e ∙ is.0 in cc)
+of_category sig (Empty d) v c is e = subst (AreEntries sig c []) (sym is.1) tt
+of_category sig (Whole d) v c is e = subst (λ k. AreEntries sig k [] v.entries) (let same : d.0 ≡ c = same_Some d.0 c (sym is.0 ∙ sym e) in same) is.1
 
-asks_list : (n : ℕ) (ss : List SchemeTree) (ts : List Tree) → AnyByRecursion (StrictIn n) ss → Asks n (list_demands ss ts)
-asks_list n [] ts h = absurd h
-asks_list n (s ∷ ss) [] h = tt
-asks_list n (s ∷ ss) (t ∷ ts) (inl h) = asks_first n (demands s t) (list_demands ss ts) (asks_strict n s t h)
-asks_list n (s ∷ ss) (t ∷ ts) (inr h) = asks_later n (demands s t) (list_demands ss ts) (asks_list n ss ts h)
+-- what is known of a context that becomes a value: its explicit entries are of a category, in the scope that the root's entries leave
+record Explicit (sig : Signature) (names : Names) (inst : Instance) (form : Root) (es : List SchemeEntry) : Type 0 where
+  cat : ℕ
+  one : AddOne sig es
+  schemes : AreSchemeEntries sig names [] cat es
+  entries : AreEntries sig cat (scope_after sig [] (root_entries inst form)) (entries_instance inst 0 es)
 
--- the instance of a context without explicit entries
-root_entries-bare : (inst : Instance) (root : ContextValue) (form : Root) → inst.root ≡ root → root_entries inst form ≡ bare_entries root form
-root_entries-bare inst root Closed e = refl
-root_entries-bare inst root (Empty c) e = refl
-root_entries-bare inst root (Whole c) e = ap (λ v. v.entries) e
+explicit : (sig : Signature) (names : Names) (inst : Instance) (form own : Root) (es : List SchemeEntry) (v : ContextValue) → Fits sig → IsRoot sig form →
+    AreExplicitEntries sig names form es → IsValue sig own v → root_cat form ≡ v.cat → root_entries inst form ++ entries_instance inst 0 es ≡ v.entries → Explicit sig names inst form es
+explicit sig names inst Closed own es v fits is none value cat e =
+    record { cat = 0; one = subst (AddOne sig) (sym none) tt; schemes = subst (AreSchemeEntries sig names [] 0) (sym none) tt; entries = subst (λ xs. AreEntries sig 0 [] (entries_instance inst 0 xs)) (sym none) tt }
+explicit sig names inst (Empty c) own es v fits is schemes value cat e =
+    let entries = subst (AreEntries sig c.0 []) (sym e) (of_category sig own v c.0 value cat) in
+    record { cat = c.0; one = add_one sig fits c.0 is inst [] 0 es entries; schemes = schemes; entries = entries }
+explicit sig names inst (Whole c) own es v fits is schemes value cat e =
+    let entries = entries_behind sig c.0 [] inst.root.entries (entries_instance inst 0 es) (subst (AreEntries sig c.0 []) (sym e) (of_category sig own v c.0 value cat)) in
+    record { cat = c.0; one = add_one sig fits c.0 is inst (scope_after sig [] inst.root.entries) 0 es entries; schemes = schemes; entries = entries }
 
-no_entries : (inst : Instance) (es : List SchemeEntry) → es ≡ [] → entries_instance inst 0 es ≡ []
-no_entries inst [] e = refl
-no_entries inst (x ∷ es) e = cc
+-- the scope of the root's entries over which a form stands is that of the root, or empty
+within_root : (sig : Signature) (inst : Instance) (form : Root) (i c : ℕ) → slice_get (scope_after sig [] (root_entries inst form)) i ≡ Some c → slice_get (scope_of sig inst.root) i ≡ Some c
+within_root sig inst Closed i c e = absurd (let no : ⊥ = cc in no)
+within_root sig inst (Empty d) i c e = absurd (let no : ⊥ = cc in no)
+within_root sig inst (Whole d) i c e = e
 
-context_is : (inst : Instance) (root : ContextValue) (ctx : SchemeContext) → inst.root ≡ root → ctx.entries ≡ [] →
-    context_instance inst ctx ≡ bare_context root ctx.root
-context_is inst root ctx e none =
-    let entries : root_entries inst ctx.root ++ entries_instance inst 0 ctx.entries ≡ bare_entries root ctx.root
-    = ap (λ es. root_entries inst ctx.root ++ es) (no_entries inst ctx.entries none)
-    ∙ append-nil (root_entries inst ctx.root) ∙ root_entries-bare inst root ctx.root e in
-    λ i. record { cat = root_cat ctx.root; entries = entries i }
+closed_context : (sig : Signature) (names : Names) (inst : Instance) (form : Root) (es : List SchemeEntry) (v : ContextValue) → AreExplicitEntries sig names form es →
+    root_entries inst form ++ entries_instance inst 0 es ≡ v.entries → (args : List Tree) (places : List Place) → AreArguments sig (scope_of sig v) places args → AreClosed form args
+closed_context sig names inst Closed es v none e args places are =
+    closed_arguments sig places args (subst (λ es. AreArguments sig (scope_after sig [] es) places args) (sym e ∙ ap (entries_instance inst 0) none) are)
+closed_context sig names inst (Empty c) es v none e args places are = tt
+closed_context sig names inst (Whole c) es v none e args places are = tt
 
--- arguments over a bare context are in the scope of the root
-wider_arguments : (sig : Signature) (scope : List ℕ) (ss : List Place) (ts : List Tree) → AreArguments sig [] ss ts → AreArguments sig scope ss ts
-wider_arguments sig scope [] [] h = tt
-wider_arguments sig scope [] (t ∷ ts) h = h
-wider_arguments sig scope (s ∷ ss) [] h = h
-wider_arguments sig scope (s ∷ ss) (t ∷ ts) h = (wider sig scope [] s.cat t h.0, wider_arguments sig scope ss ts h.1)
+-- what is known of a judgment that a pattern becomes: the scope of its arguments is that of the pattern's locals, before an outer one
+record Judged (sig : Signature) (names : Names) (inst : Instance) (j : JudgmentScheme) (w : JudgmentValue) : Type 0 where
+  outer : List ℕ
+  locals : List ℕ
+  cat : ℕ
+  wide : (i c : ℕ) → slice_get outer i ≡ Some c → slice_get (scope_of sig inst.root) i ≡ Some c
+  one : AddOne sig j.context.entries
+  entry_schemes : AreSchemeEntries sig names [] cat j.context.entries
+  entries : AreEntries sig cat outer (entries_instance inst 0 j.context.entries)
+  long : length locals ≡ length j.context.entries
+  places : List Place
+  schemes : AreSchemes sig names locals places j.args
+  values : AreArguments sig (locals ++ outer) places w.args
 
-in_root : (sig : Signature) (root : ContextValue) (form : Root) (ss : List Place) (ts : List Tree) →
-    AreArguments sig (scope_of sig (bare_context root form)) ss ts → AreArguments sig (scope_of sig root) ss ts
-in_root sig root Closed ss ts h = wider_arguments sig (scope_of sig root) ss ts h
-in_root sig root (Empty c) ss ts h = wider_arguments sig (scope_of sig root) ss ts h
-in_root sig root (Whole c) ss ts h = h
+judged : (sig : Signature) (metas : List MetaDecl) (inst : Instance) (j : JudgmentScheme) (w : JudgmentValue) → Fits sig → (fit : JudgmentsFit sig metas j w) →
+    judgment_instance inst j ≡ w → Judged sig fit.names inst j w
+judged sig metas inst j w fits fit becomes =
+    let entries_are : root_entries inst j.context.root ++ entries_instance inst 0 j.context.entries ≡ w.context.entries = ap (λ (x : JudgmentValue). x.context.entries) becomes in
+    let known = explicit sig fit.names inst j.context.root fit.form j.context.entries w.context fits fit.root fit.entries fit.context
+    (ap (λ (x : JudgmentValue). x.context.cat) becomes) entries_are in
+    let outer : List ℕ = scope_after sig [] (root_entries inst j.context.root) in
+    let scope : scope_of sig w.context ≡ entry_variables sig [] j.context.entries ++ outer =
+    ap (scope_after sig []) (sym entries_are) ∙ scope_append sig [] (root_entries inst j.context.root) (entries_instance inst 0 j.context.entries)
+    ∙ entries_scope sig fit.names known.cat outer inst [] 0 j.context.entries in
+    record {
+      outer = outer;
+      locals = entry_variables sig [] j.context.entries;
+      cat = known.cat;
+      wide = within_root sig inst j.context.root;
+      one = known.one;
+      entry_schemes = known.schemes;
+      entries = known.entries;
+      long = entries_long sig fit.names known.cat outer inst [] 0 j.context.entries refl known.one ∙ (let e : 0 + length j.context.entries ≡ length j.context.entries = omega arith in e);
+      places = fit.places;
+      schemes = fit.schemes;
+      values = subst (λ sc. AreArguments sig sc fit.places w.args) scope fit.values;
+    }
 
-are_closed : (sig : Signature) (root : ContextValue) (form : Root) (ss : List Place) (ts : List Tree) →
-    AreArguments sig (scope_of sig (bare_context root form)) ss ts → AreClosed form ts
-are_closed sig root Closed ss ts h = closed_arguments sig ss ts h
-are_closed sig root (Empty c) ss ts h = tt
-are_closed sig root (Whole c) ss ts h = tt
+module _ (sig : Signature) (fits : Fits sig) (metas : List MetaDecl) (root : ContextValue) (inst : Instance) (root_is : inst.root ≡ root) where
+  left_are : (j : JudgmentScheme) (w : JudgmentValue) → judgment_instance inst j ≡ w →
+      entries_instance inst 0 j.context.entries ≡ drop (length (entries_over root j.context.root)) w.context.entries
+  left_are j w becomes =
+      sym (drop_at (root_entries inst j.context.root) (entries_instance inst 0 j.context.entries) (length (entries_over root j.context.root))
+      (ap length (over_root inst root j.context.root root_is)))
+      ∙ ap (λ (x : JudgmentValue). drop (length (entries_over root j.context.root)) x.context.entries) becomes
 
-module _ (sig : Signature) (metas : List MetaDecl) (root : ContextValue) (slots_bind : NothingBinds sig) (plain : HaveNoParameters metas) where
-  plain_names : (names : Names) → names.metas ≡ metas → HaveNoParameters names.metas
-  plain_names names e = subst HaveNoParameters (sym e) plain
+  -- a pair becomes equal exactly where the instance of the pattern is the judgment, or the term
+  pub equal_becomes : (p : Matched) → MakesEqual inst p → Becomes inst p
+  equal_becomes (judgments j w) equal = equal.same
+  equal_becomes (terms n s t) equal = equal
 
-  plain_list : (names : Names) → names.metas ≡ metas → names.knowns ≡ [] → (places : List Place) (ss : List SchemeTree) →
-      AreSchemes sig names [] places ss → AllByRecursion IsPlain ss
-  plain_list names e k places [] h = tt
-  plain_list names e k [] (s ∷ ss) h = absurd h
-  plain_list names e k (place ∷ places) (s ∷ ss) h =
-      (plain_scheme sig names slots_bind (plain_names names e) k place.cat s h.0, plain_list names e k places ss h.1)
+  pub becomes_equal : (p : Matched) → PairFits sig metas root p → Becomes inst p → MakesEqual inst p
+  becomes_equal (judgments j w) fit becomes =
+      let fit_here = fit (ap (λ (x : JudgmentValue). x.judgment) becomes) in
+      record {
+        same = becomes;
+        closed = closed_context sig fit_here.names inst j.context.root j.context.entries w.context fit_here.entries
+            (ap (λ (x : JudgmentValue). x.context.entries) becomes) w.args fit_here.places fit_here.values;
+      }
+  becomes_equal (terms n s t) fit becomes = becomes
 
-  values_in_bare : (j : JudgmentScheme) (v : JudgmentValue) (fit : ArgumentsFit sig metas j v) → bare_context root j.context.root ≡ v.context →
-      AreArguments sig (scope_of sig (bare_context root j.context.root)) fit.places v.args
-  values_in_bare j v fit e = subst (λ ctx. AreArguments sig (scope_of sig ctx) fit.places v.args) (sym e) fit.values
+  -- what is asked is the value
+  pub pair_value : (m : ℕ) (p : Matched) (v : SchemeTree) → PairFits sig metas root p → Becomes inst p → PairDemands root m p v → embedded (value_of inst m) ≡ v
+  pair_value m (judgments j w) v fit becomes asked =
+      let at = judged sig metas inst j w fits (fit asked.0) becomes in
+      elim asked.1 [
+        | inl entry ↦ entries_value sig (fit asked.0).names at.cat at.outer inst m [] 0 j.context.entries (drop (length (entries_over root j.context.root)) w.context.entries) v refl at.one
+            at.entry_schemes (subst (AreEntries sig at.cat at.outer) (left_are j w becomes) at.entries) (left_are j w becomes) entry
+        | inr arg ↦ list_value inst m (length j.context.entries) j.args w.args v
+            (subst (λ d. AllByRecursion (LocalsBelow d) j.args) at.long (schemes_below sig (fit asked.0).names at.locals at.places j.args at.schemes))
+            (ap (λ (x : JudgmentValue). x.args) becomes) arg
+      ]
+  pair_value m (terms n s t) v fit becomes asked =
+      demand_is_value (instance_making inst) m n s (embedded t) v (subst (λ d. LocalsBelow d s) fit.number (scheme_below sig fit.names fit.locals fit.cat s fit.scheme_fits))
+      (ap embedded becomes) asked
 
-  module _ (inst : Instance) (over : inst.root ≡ root) where
-    heads_needed : (p : Matched) → PairFits sig metas root p → MakesEqual inst p → HeadsAgree root p
-    heads_needed (judgments j v) fit is =
-        (ap (λ w. w.judgment) is.same, sym (context_is inst root j.context over fit.0) ∙ ap (λ w. w.context) is.same)
-    heads_needed (terms n s t) fit is = tt
+  -- a strict occurrence asks for something
+  pub pair_strict : (m : ℕ) (p : Matched) → Becomes inst p → StrictInPair m p → (v : SchemeTree) × PairDemands root m p v
+  pair_strict m (judgments j w) becomes (inl strict) =
+      let found = entries_strict inst m 0 j.context.entries (drop (length (entries_over root j.context.root)) w.context.entries) (left_are j w becomes) strict in
+      (found.0, (ap (λ (x : JudgmentValue). x.judgment) becomes, inl found.1))
+  pair_strict m (judgments j w) becomes (inr strict) =
+      let found = list_strict inst m (length j.context.entries) j.args w.args (ap (λ (x : JudgmentValue). x.args) becomes) strict in
+      (found.0, (ap (λ (x : JudgmentValue). x.judgment) becomes, inr found.1))
+  pair_strict m (terms n s t) becomes strict = strict_demands (instance_making inst) m n s (embedded t) (ap embedded becomes) strict
 
-    met_pair : (p : Matched) → PairFits sig metas root p → HeadsAgree root p → Met inst (pair_demands p) ↔ MakesEqual inst p
-    met_pair (judgments j v) fit head =
-        let args = fit.1 head.0 in
-        let each = met_list inst j.args v.args (plain_list args.names args.metas_are args.knowns_are args.places j.args args.schemes) in
-        let depth : map (instance_of inst (length j.context.entries)) j.args ≡ map (instance_of inst 0) j.args
-        = ap (λ es. map (instance_of inst (length es)) j.args) fit.0 in (
-          λ k. let context = context_is inst root j.context over fit.0 ∙ head.1 in
-              let values = depth ∙ each.0 k in
-              record {
-                same = λ i. record { judgment = head.0 i; context = context i; args = values i };
-                closed = are_closed sig root j.context.root args.places v.args (values_in_bare j v args head.1);
-              },
-          λ k. each.1 (sym depth ∙ ap (λ w. w.args) k.same),
-        )
-    met_pair (terms n s t) fit head =
-        let is = met_demands inst s t (plain_scheme sig fit.1.names slots_bind (plain_names fit.1.names fit.1.metas_are) fit.1.knowns_are fit.1.cat s fit.1.scheme_fits) in
-        let depth : instance_of inst n s ≡ instance_of inst 0 s = ap (λ k. instance_of inst k s) fit.0 in
-        (λ k. depth ∙ is.0 k, λ k. is.1 (sym depth ∙ k))
+  -- and types the value
+  module _ (m : ℕ) (decl : MetaDecl) (named : slice_get metas m ≡ Some decl) where
+    named_in : (names : Names) → names.metas ≡ metas → slice_get names.metas m ≡ Some decl
+    named_in names e = ap (λ ms. slice_get ms m) e ∙ named
 
-    pub heads_all : (ps : List Matched) → AllByRecursion (PairFits sig metas root) ps → AllByRecursion (MakesEqual inst) ps → AllByRecursion (HeadsAgree root) ps
-    heads_all [] fit is = tt
-    heads_all (p ∷ ps) fit is = (heads_needed p fit.0 is.0, heads_all ps fit.1 is.1)
+    judgment_typed : (j : JudgmentScheme) (w : JudgmentValue) → judgment_instance inst j ≡ w → (fit : JudgmentsFit sig metas j w) → StrictInPair m (judgments j w) →
+        IsTerm sig (params_scope decl ++ scope_of sig inst.root) decl.cat.0 (value_of inst m)
+    judgment_typed j w becomes fit (inl strict) =
+        let at = judged sig metas inst j w fits fit becomes in
+        entries_typed sig fit.names at.cat at.outer inst (scope_of sig inst.root) at.wide m decl (named_in fit.names fit.metas_are) [] 0 j.context.entries
+        (entries_instance inst 0 j.context.entries) refl at.one at.entry_schemes at.entries refl strict
+    judgment_typed j w becomes fit (inr strict) =
+        let at = judged sig metas inst j w fits fit becomes in
+        list_typed at.outer (scope_of sig inst.root) at.wide sig fit.names inst m decl (named_in fit.names fit.metas_are) at.locals at.places j.args w.args at.schemes at.values
+        (ap (λ d. map (instance_of inst d) j.args) at.long ∙ ap (λ (x : JudgmentValue). x.args) becomes) strict
 
-    pub met_all : (ps : List Matched) → AllByRecursion (PairFits sig metas root) ps → AllByRecursion (HeadsAgree root) ps →
-        Met inst (all_demands ps) ↔ AllByRecursion (MakesEqual inst) ps
-    met_all [] fit head = (λ k. tt, λ k. tt)
-    met_all (p ∷ ps) fit head =
-        let both = met_joined inst (pair_demands p) (all_demands ps) in
-        let first = met_pair p fit.0 head.0 in
-        let rest = met_all ps fit.1 head.1 in
-        (λ k. (first.0 (both.0 k).0, rest.0 (both.0 k).1), λ k. both.1 (first.1 k.0, rest.1 k.1))
+    pub pair_typed : (p : Matched) → PairFits sig metas root p → Becomes inst p → StrictInPair m p → IsTerm sig (params_scope decl ++ scope_of sig inst.root) decl.cat.0 (value_of inst m)
+    pair_typed (judgments j w) fit becomes strict = judgment_typed j w becomes (fit (ap (λ (x : JudgmentValue). x.judgment) becomes)) strict
+    pair_typed (terms n s t) fit becomes strict =
+        one_typed (scope_of sig inst.root) (scope_of sig inst.root) (λ i c e. e) sig fit.names inst m decl (named_in fit.names fit.metas_are) fit.locals fit.cat s t fit.scheme_fits
+        (subst (λ r. IsTerm sig (fit.locals ++ scope_of sig r) fit.cat t) (sym root_is) fit.value_fits)
+        (ap (λ d. instance_of inst d s) fit.number ∙ becomes) strict
 
-  of_category_pair : (p : Matched) → PairFits sig metas root p → HeadsAgree root p → Each (OfItsCategory sig metas (scope_of sig root)) (pair_demands p)
-  of_category_pair (judgments j v) fit head =
-      let args = fit.1 head.0 in
-      subst (λ ms. Each (OfItsCategory sig ms (scope_of sig root)) (list_demands j.args v.args)) args.metas_are
-      (of_category_list sig args.names (scope_of sig root) slots_bind args.places j.args v.args args.schemes
-      (in_root sig root j.context.root args.places v.args (values_in_bare j v args head.1)))
-  of_category_pair (terms n s t) fit head =
-      subst (λ ms. Each (OfItsCategory sig ms (scope_of sig root)) (demands s t)) fit.1.metas_are
-      (of_category sig fit.1.names (scope_of sig root) slots_bind fit.1.cat s t fit.1.scheme_fits fit.1.value_fits)
+-- all pairs
+module _ (sig : Signature) (fits : Fits sig) (metas : List MetaDecl) (root : ContextValue) (inst : Instance) (root_is : inst.root ≡ root) where
+  pub all_become : (ps : List Matched) → AllByRecursion (MakesEqual inst) ps → AllByRecursion (Becomes inst) ps
+  all_become [] equal = tt
+  all_become (p ∷ ps) equal = (equal_becomes sig fits metas root inst root_is p equal.0, all_become ps equal.1)
 
-  pub of_category_all : (ps : List Matched) → AllByRecursion (PairFits sig metas root) ps → AllByRecursion (HeadsAgree root) ps →
-      Each (OfItsCategory sig metas (scope_of sig root)) (all_demands ps)
-  of_category_all [] fit head = tt
-  of_category_all (p ∷ ps) fit head =
-      each_joined (OfItsCategory sig metas (scope_of sig root)) (pair_demands p) (all_demands ps)
-      (of_category_pair p fit.0 head.0) (of_category_all ps fit.1 head.1)
+  pub all_equal : (ps : List Matched) → AllByRecursion (PairFits sig metas root) ps → AllByRecursion (Becomes inst) ps → AllByRecursion (MakesEqual inst) ps
+  all_equal [] fit become = tt
+  all_equal (p ∷ ps) fit become = (becomes_equal sig fits metas root inst root_is p fit.0 become.0, all_equal ps fit.1 become.1)
 
-  asks_pair : (n : ℕ) (p : Matched) → PairFits sig metas root p → StrictInPair n p → Asks n (pair_demands p)
-  asks_pair n (judgments j v) fit (inl h) = absurd (subst (StrictInEntries n) fit.0 h)
-  asks_pair n (judgments j v) fit (inr h) = asks_list n j.args v.args h
-  asks_pair n (terms k s t) fit h = asks_strict n s t h
+  pub pairs_value : (m : ℕ) (ps : List Matched) (v : SchemeTree) → AllByRecursion (PairFits sig metas root) ps → AllByRecursion (Becomes inst) ps → PairsDemand root m ps v →
+      embedded (value_of inst m) ≡ v
+  pairs_value m [] v fit become asked = absurd asked
+  pairs_value m (p ∷ ps) v fit become (inl asked) = pair_value sig fits metas root inst root_is m p v fit.0 become.0 asked
+  pairs_value m (p ∷ ps) v fit become (inr asked) = pairs_value m ps v fit.1 become.1 asked
 
-  pub asks_all : (n : ℕ) (ps : List Matched) → AllByRecursion (PairFits sig metas root) ps → AnyByRecursion (StrictInPair n) ps → Asks n (all_demands ps)
-  asks_all n [] fit h = absurd h
-  asks_all n (p ∷ ps) fit (inl h) = asks_first n (pair_demands p) (all_demands ps) (asks_pair n p fit.0 h)
-  asks_all n (p ∷ ps) fit (inr h) = asks_later n (pair_demands p) (all_demands ps) (asks_all n ps fit.1 h)
+  pub pairs_strict : (m : ℕ) (ps : List Matched) → AllByRecursion (Becomes inst) ps → AnyByRecursion (StrictInPair m) ps → (v : SchemeTree) × PairsDemand root m ps v
+  pairs_strict m [] become strict = absurd strict
+  pairs_strict m (p ∷ ps) become (inl strict) = let found = pair_strict sig fits metas root inst root_is m p become.0 strict in (found.0, inl found.1)
+  pairs_strict m (p ∷ ps) become (inr strict) = let found = pairs_strict m ps become.1 strict in (found.0, inr found.1)
+
+  pub pairs_typed : (m : ℕ) (decl : MetaDecl) → slice_get metas m ≡ Some decl → (ps : List Matched) → AllByRecursion (PairFits sig metas root) ps → AllByRecursion (Becomes inst) ps →
+      AnyByRecursion (StrictInPair m) ps → IsTerm sig (params_scope decl ++ scope_of sig inst.root) decl.cat.0 (value_of inst m)
+  pairs_typed m decl named [] fit become strict = absurd strict
+  pairs_typed m decl named (p ∷ ps) fit become (inl strict) = pair_typed sig fits metas root inst root_is m decl named p fit.0 become.0 strict
+  pairs_typed m decl named (p ∷ ps) fit become (inr strict) = pairs_typed m decl named ps fit.1 become.1 strict

@@ -1,18 +1,18 @@
 -- What a matcher holds, and the ground instance that makes its pairs equal.
-use Rattle.std.specs.Prelude.{◌≡◌, ℕ, List, [], map, Option, Some, None}
+use Rattle.std.specs.Prelude.{◌≡◌, ℕ, List, [], ◌++◌, length, map, Option, Some, None}
 use Rattle.std.specs.List.{AllByRecursion, AllZip}
 use Rattle.binding_terms.specs.Numbered.{AnyByRecursion, AllNumbered}
 use Rattle.binding_terms.specs.Tree.{Tree}
-use Rattle.binding_terms.specs.Signature.{Signature, Place}
+use Rattle.binding_terms.specs.Signature.{Signature, Place, Fits}
 use Rattle.binding_terms.specs.Scope.{IsTerm}
 use Rattle.scheme_terms.specs.SchemeTree.{SchemeTree, StrictIn}
 use Rattle.scheme_terms.specs.Forms.{Names, ContextValue, Instance}
-use Rattle.scheme_terms.specs.Context.{AreArguments, scope_of}
+use Rattle.scheme_terms.specs.Context.{AreArguments, IsValue, scope_of}
 use Rattle.scheme_terms.specs.Instance.{instance_of, IsMetaValue}
-use Rattle.scheme_terms.specs.SchemeScope.{IsScheme, AreSchemes}
+use Rattle.scheme_terms.specs.SchemeScope.{IsScheme, AreSchemes, IsSchemeContext, IsRoot, entry_variables}
 use Rattle.scheme_terms.specs.declared.scheme.MetaDecl.{MetaDecl}
 use Rattle.rule_schemes.specs.Rules.{JudgmentScheme, JudgmentValue, IsInstance, StrictInJudgment}
-use Rattle.scheme_match.specs.Plain.{NothingBinds, HaveNoParameters}
+use Rattle.scheme_terms.specs.declared.scheme.Root.{Root}
 
 -- a pattern and what it is to become; the second kind stands under so many locals
 pub data Matched : Type 0 where
@@ -27,35 +27,38 @@ pub record Matching : Type 0 where
   pub root : ContextValue
   pub pairs : List Matched
 
--- The arguments of the pattern and of the judgment are, place by place, of one category, in the scope of these metavariables and
--- in that of the judgment's own context.
-pub record ArgumentsFit (sig : Signature) (metas : List MetaDecl) (j : JudgmentScheme) (v : JudgmentValue) : Type 0 where
+-- Both are in scope by the signature: the pattern in that of these metavariables, with any known variables, under the variables of
+-- its own entries, and the judgment in that of a value of its context. Their arguments are, place by place, of one category.
+pub record JudgmentsFit (sig : Signature) (metas : List MetaDecl) (j : JudgmentScheme) (v : JudgmentValue) : Type 0 where
   pub names : Names
   pub metas_are : names.metas ≡ metas
-  pub knowns_are : names.knowns ≡ []
+  pub root : IsRoot sig j.context.root
+  pub entries : IsSchemeContext sig names j.context
+  pub form : Root
+  pub context : IsValue sig form v.context
   pub places : List Place
-  pub schemes : AreSchemes sig names [] places j.args
+  pub schemes : AreSchemes sig names (entry_variables sig [] j.context.entries) places j.args
   pub values : AreArguments sig (scope_of sig v.context) places v.args
 
--- the pattern and the term are of one category, in the scope of these metavariables and of the root's variables
-pub record TermsFit (sig : Signature) (metas : List MetaDecl) (root : ContextValue) (s : SchemeTree) (t : Tree) : Type 0 where
+-- The pattern and the term are of one category, under so many locals, in the scope of these metavariables, with any known
+-- variables, and of the root's variables.
+pub record TermsFit (sig : Signature) (metas : List MetaDecl) (root : ContextValue) (n : ℕ) (s : SchemeTree) (t : Tree) : Type 0 where
   pub names : Names
   pub metas_are : names.metas ≡ metas
-  pub knowns_are : names.knowns ≡ []
+  pub locals : List ℕ
+  pub number : length locals ≡ n
   pub cat : ℕ
-  pub scheme_fits : IsScheme sig names [] cat s
-  pub value_fits : IsTerm sig (scope_of sig root) cat t
+  pub scheme_fits : IsScheme sig names locals cat s
+  pub value_fits : IsTerm sig (locals ++ scope_of sig root) cat t
 
--- what is owed of a pair: it is in scope, and stands under no entry and no local
+-- what is owed of a pair: judgments of different kinds need not go together
 abbrev pub PairFits : Signature → List MetaDecl → ContextValue → Matched → Type 0
-PairFits sig metas root (judgments j v) = (j.context.entries ≡ []) × (j.judgment ≡ v.judgment → ArgumentsFit sig metas j v)
-PairFits sig metas root (terms n s t) = (n ≡ 0) × TermsFit sig metas root s t
+PairFits sig metas root (judgments j v) = j.judgment ≡ v.judgment → JudgmentsFit sig metas j v
+PairFits sig metas root (terms n s t) = TermsFit sig metas root n s t
 
 -- what holds of every matcher
 pub record IsMatching (m : Matching) : Type 0 where
-  pub slots : NothingBinds m.sig
-  pub metas : HaveNoParameters m.metas
-  pub knowns : m.knowns ≡ []
+  pub sig_fits : Fits m.sig
   pub pairs : AllByRecursion (PairFits m.sig m.metas m.root) m.pairs
 
 -- the instance of the pattern is what it is to become

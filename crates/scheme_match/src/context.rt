@@ -1,12 +1,9 @@
 ghost use Rattle.std.specs.Prelude.{◌≡◌, ◌↔◌, IsTrue, IfOk, Some, map, option_map};
-ghost use Rattle.std.specs.List.{AllByRecursion};
 ghost use Rattle.binding_terms.specs.View.{tree};
 ghost use Rattle.scheme_terms.specs.View.{ground_entry, context_value};
 ghost use Rattle.scheme_terms.specs.Instance.{root_cat};
-ghost use Rattle.scheme_match.specs.Pairs.{matched};
-ghost use Rattle.scheme_match.specs.Demands.{bare_entries, bare_context, HeadsAgree};
+ghost use Rattle.scheme_match.specs.Demands.{entries_over};
 
-use crate::pair::Pair;
 use binding_terms::{CatId, NoMemory, Term, copy, same};
 use scheme_terms::{CtxValue, Entry, Root};
 use sqlite_items::Items;
@@ -32,7 +29,7 @@ fn same_entry(x: &Entry, y: &Entry) -> bool
     x.prod.0 == y.prod.0 && same_terms(x.args.as_slice(), y.args.as_slice())
 }
 
-fn same_entries(xs: &[Entry], ys: &[Entry]) -> bool
+pub fn same_entries(xs: &[Entry], ys: &[Entry]) -> bool
     ensures { IsTrue result ↔ (map ground_entry xs.now ≡ map ground_entry ys.now) }
 {
     if xs.len() != ys.len() {
@@ -46,7 +43,7 @@ fn same_entries(xs: &[Entry], ys: &[Entry]) -> bool
     true
 }
 
-fn same_category(a: Option<CatId>, b: Option<CatId>) -> bool
+pub fn same_category(a: Option<CatId>, b: Option<CatId>) -> bool
     ensures { IsTrue result ↔ (option_map (λ c. c.0) a ≡ option_map (λ c. c.0) b) }
 {
     match (a, b) {
@@ -57,7 +54,7 @@ fn same_category(a: Option<CatId>, b: Option<CatId>) -> bool
 }
 
 /// The category of a form's context.
-fn category_of(form: Root) -> Option<CatId>
+pub fn category_of(form: Root) -> Option<CatId>
     ensures { option_map (λ c. c.0) result ≡ root_cat form }
 {
     match form {
@@ -66,45 +63,14 @@ fn category_of(form: Root) -> Option<CatId>
     }
 }
 
-/// The entries of a form's context without explicit entries, over the root.
-fn entries_of<'a>(root: &'a CtxValue, form: Root) -> &'a [Entry]
-    ensures { map ground_entry result.now ≡ bare_entries (context_value root.now) form }
+/// The entries of the root over which a form stands.
+pub fn entries_over<'a>(root: &'a CtxValue, form: Root) -> &'a [Entry]
+    ensures { map ground_entry result.now ≡ entries_over (context_value root.now) form }
 {
     match form {
         Root::Whole(_) => root.entries.as_slice(),
         _ => &[],
     }
-}
-
-/// Whether the context without explicit entries over the root is this value.
-fn is_context(root: &CtxValue, form: Root, value: &CtxValue) -> bool
-    ensures { IsTrue result ↔ (bare_context (context_value root.now) form ≡ context_value value.now) }
-{
-    same_category(category_of(form), value.cat)
-        && same_entries(entries_of(root, form), value.entries.as_slice())
-}
-
-/// Whether a pair of judgments is of one judgment in one context.
-fn heads_agree(root: &CtxValue, pair: &Pair<'_>) -> bool
-    ensures { IsTrue result ↔ HeadsAgree (context_value root.now) (matched pair.now) }
-{
-    match pair {
-        Pair::Judgments(pattern, target) => pattern.judgment.0 == target.judgment.0
-            && is_context(root, pattern.ctx.root, &target.ctx),
-        Pair::Terms(_, _, _) => true,
-    }
-}
-
-/// Whether each pair of judgments is of one judgment in one context.
-pub fn all_heads_agree(root: &CtxValue, pairs: &[Pair<'_>]) -> bool
-    ensures { IsTrue result ↔ AllByRecursion (HeadsAgree (context_value root.now)) (map matched pairs.now) }
-{
-    for pair in pairs {
-        if !heads_agree(root, pair) {
-            return false;
-        }
-    }
-    true
 }
 
 fn copy_entry(alloc: Global, entry: &Entry) -> Result<Entry, NoMemory>

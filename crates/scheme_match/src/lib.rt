@@ -1,12 +1,10 @@
 //! Patterns against ground terms.
 #![tactic(auto)]
 
-mod answer;
+mod asked;
 mod context;
-mod demand;
+mod equal;
 mod matcher;
 mod pair;
-#[cfg(test)]
-mod tests;
 
 pub use matcher::Matcher;

@@ -1,17 +1,17 @@
-ghost use Rattle.std.specs.Prelude.{◌≡◌, [], ◌∷◌, ◌++◌, IfOk, OnOk, OnErr, option_map};
+ghost use Rattle.std.specs.Prelude.{◌≡◌, [], ◌∷◌, ◌++◌, IfOk, OnOk, OnErr, Some, map, option_map};
 ghost use Rattle.binding_terms.specs.View.{tree};
 ghost use Rattle.scheme_terms.specs.View.{scheme, context_value, instance};
 ghost use Rattle.rule_schemes.specs.View.{judgment_scheme, judgment_value};
-ghost use Rattle.scheme_match.specs.Plain.{NothingBinds, HaveNoParameters};
-ghost use Rattle.scheme_match.specs.Matching.{Matched, judgments, terms, Matching, ArgumentsFit, TermsFit, AreStrict, IsOnlyMatch};
+ghost use Rattle.scheme_match.specs.Matching.{Matched, judgments, terms, Matching, JudgmentsFit, TermsFit, AreStrict, IsOnlyMatch};
 
-use crate::answer::{agree, instance_for};
-use crate::context::all_heads_agree;
-use crate::demand::demands_of;
+use crate::asked::asked_values;
+use crate::context::copy_context;
+use crate::equal::all_become;
 use crate::pair::Pair;
 use binding_terms::{NoMemory, Sig, Term};
 use rule_schemes::{JScheme, JudgInst};
 use scheme_terms::{CtxValue, Inst, MetaDecl, Scheme};
+use sqlite_items::Items;
 use std::alloc::Global;
 use std::marker::Model;
 
@@ -54,11 +54,10 @@ impl<'a> Matcher<'a> {
         knowns: &'a [usize],
         root: &'a CtxValue,
     ) -> Result<Matcher<'a>, NoMemory>
-        requires slots { NothingBinds sig.now }
-        requires metas { HaveNoParameters metas.now }
-        requires knowns { knowns.now ≡ [] }
         ensures { IfOk result (λ new. new ≡ record { sig = sig.now; metas = metas.now; knowns = knowns.now; root = context_value root.now; pairs = [] }) }
     {
+        // The categories of a signature fit with its productions.
+        let _fit = sig.prods();
         Ok(Matcher {
             alloc,
             sig,
@@ -71,9 +70,8 @@ impl<'a> Matcher<'a> {
 
     /// Adds a pattern and the judgment that it is to become. A refusal leaves the matcher unchanged.
     pub fn add(&mut self, pattern: &'a JScheme, target: &'a JudgInst) -> Result<(), NoMemory>
-        requires entries { (judgment_scheme pattern.now).context.entries ≡ [] }
-        requires arguments { (judgment_scheme pattern.now).judgment ≡ (judgment_value target.now).judgment
-            → ArgumentsFit self.old.sig self.old.metas (judgment_scheme pattern.now) (judgment_value target.now) }
+        requires { (judgment_scheme pattern.now).judgment ≡ (judgment_value target.now).judgment
+            → JudgmentsFit self.old.sig self.old.metas (judgment_scheme pattern.now) (judgment_value target.now) }
         ensures ok { OnOk result (self.new ≡ record self.old { pairs = self.old.pairs ++ judgments (judgment_scheme pattern.now) (judgment_value target.now) ∷ [] }) }
         ensures err { OnErr result (self.new ≡ self.old) }
     {
@@ -88,8 +86,7 @@ impl<'a> Matcher<'a> {
         pattern: &'a Scheme,
         target: &'a Term,
     ) -> Result<(), NoMemory>
-        requires locals { locals ≡ 0 }
-        requires sides { TermsFit self.old.sig self.old.metas self.old.root (scheme pattern.now) (tree target.now) }
+        requires { TermsFit self.old.sig self.old.metas self.old.root locals (scheme pattern.now) (tree target.now) }
         ensures ok { OnOk result (self.new ≡ record self.old { pairs = self.old.pairs ++ terms locals (scheme pattern.now) (tree target.now) ∷ [] }) }
         ensures err { OnErr result (self.new ≡ self.old) }
     {
@@ -102,17 +99,30 @@ impl<'a> Matcher<'a> {
         requires { AreStrict self }
         ensures { IfOk result (λ answer. IsOnlyMatch self.entry (option_map instance answer)) }
     {
-        if !all_heads_agree(self.root, self.pairs.as_slice()) {
-            return Ok(None);
-        }
-        let found = match demands_of(self.alloc, self.pairs.as_slice())? {
-            Some(found) => found,
+        let pairs = self.pairs.as_slice();
+        let metas = match asked_values(self.alloc, self.root, self.metas, pairs)? {
+            Some(metas) => metas,
             None => return Ok(None),
         };
-        if !agree(found.as_slice()) {
+        let inst = Inst {
+            metas,
+            knowns: places(self.alloc, self.knowns)?,
+            root: copy_context(self.alloc, self.root)?,
+        };
+        if !all_become(self.alloc, &inst, pairs)? {
             return Ok(None);
         }
-        let inst = instance_for(self.alloc, found.as_slice(), self.metas, self.root)?;
         Ok(Some(inst))
     }
+}
+
+/// The places of the known variables.
+fn places(alloc: Global, knowns: &[usize]) -> Result<Items<Option<usize>>, NoMemory>
+    ensures { IfOk result (λ all. all ≡ map Some knowns.now) }
+{
+    let mut all = Items::new(alloc);
+    for place in knowns {
+        all.push(Some(*place))?;
+    }
+    Ok(all)
 }

@@ -1,10 +1,9 @@
 -- What stands for the variables of a value: its arguments, the last one innermost, and beyond them others.
-use Rattle.std.proofs.Common.{◌≡◌, ◌⊎◌, ℕ, ◌-◌, ◌<◌, ◌≤◌, nat_lt, if◌then◌else◌, List, [], ◌∷◌, length, map, reverse, get_or, Option, Some, slice_get, unwrap_or, option_map, inl, inr, refl, ap, ◌∙◌, sym, arith}
+use Rattle.std.proofs.Common.{◌≡◌, ◌⊎◌, ℕ, ◌-◌, ◌<◌, ◌≤◌, nat_lt, if◌then◌else◌, List, length, map, reverse, slice_get, unwrap_or, inl, inr, ap, ◌∙◌, sym, arith}
 use Rattle.std.proofs.lemmas.Bool.{cases_lt}
 use Rattle.std.proofs.lemmas.Bool.Decides.{nat_tests}
-use Rattle.std.proofs.lemmas.List.{length-map, length-reverse}
-use Rattle.std.proofs.lemmas.Option.{slice_get-map, slice_get-get_or}
-use mathlib.Core.List.{reverse_aux}
+use Rattle.std.proofs.lemmas.List.{length-map}
+use Rattle.std.proofs.lemmas.Option.{slice_get-map}
 use Rattle.binding_terms.proofs.Lists.{in_reverse, reverse_map, unwrap_mapped}
 
 -- the i-th argument from the end, and beyond the arguments what stands outside

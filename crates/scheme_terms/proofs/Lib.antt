@@ -4,12 +4,17 @@ pub mod AppliedSchemes
 pub mod Arguments
 pub mod Compositions
 pub mod DistinctLocals
+pub mod Embeddings
 pub mod Followed
 pub mod Identities
 pub mod InstanceScopes
 pub mod Lists
+pub mod LoweredBack
+pub mod Lowering
+pub mod Makings
 pub mod Named
 pub mod Options
+pub mod Parameters
 pub mod Parts
 pub mod RaisedInstances
 pub mod SchemeFacts
@@ -17,4 +22,5 @@ pub mod SchemeFilling
 pub mod SchemeScopes
 pub mod SchemeSubstitutions
 pub mod StrictAgreements
+pub mod StrictTyped
 pub mod Values

@@ -12,9 +12,9 @@ use Rattle.binding_terms.specs.Substitution.{filled, filled_args, under}
 use Rattle.binding_terms.specs.View.{args_of, tree, arg_tree, args_tree}
 use Rattle.binding_terms.specs.declared.term.Arg.{Arg}
 use Rattle.binding_terms.specs.declared.term.Term.{Term}
-use Rattle.binding_terms.proofs.Filling.{under_under}
+use Rattle.binding_terms.proofs.Filling.{under_under, shifted_none}
 use Rattle.scheme_terms.specs.Forms.{Instance}
-use Rattle.scheme_terms.specs.SchemeTree.{SchemeTree, values}
+use Rattle.scheme_terms.specs.SchemeTree.{SchemeTree, meta, no_values, values}
 use Rattle.scheme_terms.specs.Instance.{argument_or_root, value_of, instance_of, instances_of, parts_instance}
 use Rattle.scheme_terms.specs.View.{instance, scheme, parts_of, scheme_part, scheme_parts}
 use Rattle.scheme_terms.specs.declared.scheme.Scheme.{Scheme}
@@ -87,3 +87,7 @@ pub without_arguments : (args : List Term) (locals : ℕ) (t : Tree) → length 
     shifted 0 locals t ≡ filled (argument_or_root locals (map tree args)) t
 without_arguments [] locals t h = shifted_is_filled 0 locals t ∙ ap (λ f. filled f t) (λ k i. root_alone locals i k)
 without_arguments (a ∷ args) locals t h = absurd (let no : ⊥ = omega arith in no)
+
+-- the instance of a metavariable alone is its value
+pub instance_meta : (inst : Instance) (m : ℕ) → instance_of inst 0 (meta m no_values) ≡ value_of inst m
+instance_meta inst m = sym (without_arguments [] 0 (value_of inst m) refl) ∙ shifted_none 0 (value_of inst m)

@@ -1,6 +1,5 @@
 -- Facts about the value of an option.
-use Rattle.std.proofs.Common.{◌≡◌, ℕ, zero, suc, List, [], ◌∷◌, Option, Some, None, MatchOption, slice_get, reverse, refl, subst}
-use mathlib.Core.List.{reverse_aux}
+use Rattle.std.proofs.Common.{◌≡◌, ℕ, zero, suc, List, [], ◌∷◌, Some, slice_get, refl, subst}
 use Rattle.std.specs.List.{AllZip}
 
 some_same : {A : Type 0} (a b : A) → Some a ≡ Some b → a ≡ b

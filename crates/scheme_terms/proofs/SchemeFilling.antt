@@ -1,76 +1,79 @@
--- Raising schemes, and schemes put in for all locals under more and more binders.
+-- A scheme as a term: raising and putting in are the same there, so that the laws on schemes are read off those on terms.
 use Rattle.std.proofs.Common.{◌≡◌, ◌⊎◌, ℕ, ◌+◌, ◌-◌, ◌<◌, ◌≤◌, inl, inr, refl, ap, ◌∙◌, sym, arith}
 use Rattle.std.proofs.lemmas.Bool.{cases_lt}
 use Rattle.std.proofs.lemmas.Bool.Decides.{nat_tests}
-use Rattle.binding_terms.specs.Tree.{raised}
-use Rattle.scheme_terms.specs.SchemeTree.{SchemeTree, meta, known, local, con, Values, no_values, value, Parts, no_parts, part, shifted, shifted_values, shifted_parts, under}
+use Rattle.binding_terms.specs.Tree as terms
+use Rattle.binding_terms.specs.Tree.{Tree, var, con as node, Args, no_args, arg}
+use Rattle.binding_terms.specs.Substitution as filling
+use Rattle.binding_terms.proofs.Filling as on_terms
+use Rattle.scheme_terms.specs.SchemeTree.{SchemeTree, meta, known, local, con, Values, no_values, value, Parts, no_parts, part, shifted, shifted_values, shifted_parts, under, filled, filled_values, filled_parts}
 
-raised_none : (cut i : ℕ) → raised cut 0 i ≡ i
-raised_none cut i = grind (arith, nat_tests)
+-- a kind of node with its number and its arguments
+abbrev noted : (kind number : ℕ) → Args → Tree
+noted kind number xs = node kind (arg 0 (node number no_args) xs)
 
-raised_twice : (cut m n i : ℕ) → raised cut n (raised cut m i) ≡ raised cut (m + n) i
-raised_twice cut m n i = grind (arith, nat_tests)
+abbrev mutual
+  pub coded : SchemeTree → Tree
+  coded (meta m vs) = noted 0 m (coded_values vs)
+  coded (known k) = noted 1 k no_args
+  coded (local i) = var i
+  coded (con p xs) = noted 2 p (coded_parts xs)
 
-raised_raised : (b c e m n i : ℕ) → b ≤ c → e ≡ c + m → raised e n (raised b m i) ≡ raised b m (raised c n i)
-raised_raised b c e m n i h k = grind (arith, nat_tests)
+  pub coded_values : Values → Args
+  coded_values no_values = no_args
+  coded_values (value s vs) = arg 0 (coded s) (coded_values vs)
 
-mutual
-  pub shifted_none : (cut : ℕ) (s : SchemeTree) → shifted cut 0 s ≡ s
-  shifted_none cut (meta m vs) = ap (meta m) (shifted_none_values cut vs)
-  shifted_none cut (known k) = refl
-  shifted_none cut (local i) = ap local (raised_none cut i)
-  shifted_none cut (con p xs) = ap (con p) (shifted_none_parts cut xs)
-
-  shifted_none_values : (cut : ℕ) (vs : Values) → shifted_values cut 0 vs ≡ vs
-  shifted_none_values cut no_values = refl
-  shifted_none_values cut (value s vs) =
-      ap (λ t. value t (shifted_values cut 0 vs)) (shifted_none cut s) ∙ ap (value s) (shifted_none_values cut vs)
-
-  shifted_none_parts : (cut : ℕ) (xs : Parts) → shifted_parts cut 0 xs ≡ xs
-  shifted_none_parts cut no_parts = refl
-  shifted_none_parts cut (part n s xs) =
-      ap (λ t. part n t (shifted_parts cut 0 xs)) (shifted_none (cut + n) s) ∙ ap (part n s) (shifted_none_parts cut xs)
+  pub coded_parts : Parts → Args
+  coded_parts no_parts = no_args
+  coded_parts (part n s xs) = arg n (coded s) (coded_parts xs)
 
 mutual
-  pub shifted_twice : (cut m n : ℕ) (s : SchemeTree) → shifted cut n (shifted cut m s) ≡ shifted cut (m + n) s
-  shifted_twice cut m n (meta k vs) = ap (meta k) (shifted_twice_values cut m n vs)
-  shifted_twice cut m n (known k) = refl
-  shifted_twice cut m n (local i) = ap local (raised_twice cut m n i)
-  shifted_twice cut m n (con p xs) = ap (con p) (shifted_twice_parts cut m n xs)
+  pub coded_injective : (s t : SchemeTree) → coded s ≡ coded t → s ≡ t
+  coded_injective (meta m vs) (meta n ws) e =
+      let first : m ≡ n = cc in
+      let rest = coded_values_injective vs ws (let same : coded_values vs ≡ coded_values ws = cc in same) in
+      λ i. meta (first i) (rest i)
+  coded_injective (known k) (known l) e = ap known (let same : k ≡ l = cc in same)
+  coded_injective (local i) (local j) e = ap local (let same : i ≡ j = cc in same)
+  coded_injective (con p xs) (con q ys) e =
+      let first : p ≡ q = cc in
+      let rest = coded_parts_injective xs ys (let same : coded_parts xs ≡ coded_parts ys = cc in same) in
+      λ i. con (first i) (rest i)
+  coded_injective _ _ e = cc
 
-  shifted_twice_values : (cut m n : ℕ) (vs : Values) → shifted_values cut n (shifted_values cut m vs) ≡ shifted_values cut (m + n) vs
-  shifted_twice_values cut m n no_values = refl
-  shifted_twice_values cut m n (value s vs) =
-      ap (λ t. value t (shifted_values cut n (shifted_values cut m vs))) (shifted_twice cut m n s)
-      ∙ ap (value (shifted cut (m + n) s)) (shifted_twice_values cut m n vs)
+  coded_values_injective : (vs ws : Values) → coded_values vs ≡ coded_values ws → vs ≡ ws
+  coded_values_injective no_values no_values e = refl
+  coded_values_injective (value s vs) (value t ws) e =
+      let first = coded_injective s t (let same : coded s ≡ coded t = cc in same) in
+      let rest = coded_values_injective vs ws (let same : coded_values vs ≡ coded_values ws = cc in same) in
+      λ i. value (first i) (rest i)
+  coded_values_injective _ _ e = cc
 
-  shifted_twice_parts : (cut m n : ℕ) (xs : Parts) → shifted_parts cut n (shifted_parts cut m xs) ≡ shifted_parts cut (m + n) xs
-  shifted_twice_parts cut m n no_parts = refl
-  shifted_twice_parts cut m n (part l s xs) =
-      ap (λ t. part l t (shifted_parts cut n (shifted_parts cut m xs))) (shifted_twice (cut + l) m n s)
-      ∙ ap (part l (shifted (cut + l) (m + n) s)) (shifted_twice_parts cut m n xs)
+  coded_parts_injective : (xs ys : Parts) → coded_parts xs ≡ coded_parts ys → xs ≡ ys
+  coded_parts_injective no_parts no_parts e = refl
+  coded_parts_injective (part m s xs) (part n t ys) e =
+      let binds : m ≡ n = cc in
+      let first = coded_injective s t (let same : coded s ≡ coded t = cc in same) in
+      let rest = coded_parts_injective xs ys (let same : coded_parts xs ≡ coded_parts ys = cc in same) in
+      λ i. part (binds i) (first i) (rest i)
+  coded_parts_injective _ _ e = cc
 
--- two shifts in either order
 mutual
-  pub shifted_shifted : (b c e m n : ℕ) → b ≤ c → e ≡ c + m → (s : SchemeTree) → shifted e n (shifted b m s) ≡ shifted b m (shifted c n s)
-  shifted_shifted b c e m n h k (meta i vs) = ap (meta i) (shifted_shifted_values b c e m n h k vs)
-  shifted_shifted b c e m n h k (known i) = refl
-  shifted_shifted b c e m n h k (local i) = ap local (raised_raised b c e m n i h k)
-  shifted_shifted b c e m n h k (con p xs) = ap (con p) (shifted_shifted_parts b c e m n h k xs)
+  pub coded_shifted : (c n : ℕ) (s : SchemeTree) → coded (shifted c n s) ≡ terms.shifted c n (coded s)
+  coded_shifted c n (meta m vs) = ap (noted 0 m) (coded_values_shifted c n vs)
+  coded_shifted c n (known k) = refl
+  coded_shifted c n (local i) = refl
+  coded_shifted c n (con p xs) = ap (noted 2 p) (coded_parts_shifted c n xs)
 
-  shifted_shifted_values : (b c e m n : ℕ) → b ≤ c → e ≡ c + m → (vs : Values) →
-      shifted_values e n (shifted_values b m vs) ≡ shifted_values b m (shifted_values c n vs)
-  shifted_shifted_values b c e m n h k no_values = refl
-  shifted_shifted_values b c e m n h k (value s vs) =
-      ap (λ t. value t (shifted_values e n (shifted_values b m vs))) (shifted_shifted b c e m n h k s)
-      ∙ ap (value (shifted b m (shifted c n s))) (shifted_shifted_values b c e m n h k vs)
+  coded_values_shifted : (c n : ℕ) (vs : Values) → coded_values (shifted_values c n vs) ≡ terms.shifted_args c n (coded_values vs)
+  coded_values_shifted c n no_values = refl
+  coded_values_shifted c n (value s vs) =
+      let here = coded_shifted c n s ∙ ap (λ k. terms.shifted k n (coded s)) (let e : c ≡ c + 0 = omega arith in e) in
+      λ i. arg 0 (here i) (coded_values_shifted c n vs i)
 
-  shifted_shifted_parts : (b c e m n : ℕ) → b ≤ c → e ≡ c + m → (xs : Parts) →
-      shifted_parts e n (shifted_parts b m xs) ≡ shifted_parts b m (shifted_parts c n xs)
-  shifted_shifted_parts b c e m n h k no_parts = refl
-  shifted_shifted_parts b c e m n h k (part l s xs) =
-      ap (λ t. part l t (shifted_parts e n (shifted_parts b m xs))) (shifted_shifted (b + l) (c + l) (e + l) m n (omega arith) (omega arith) s)
-      ∙ ap (part l (shifted (b + l) m (shifted (c + l) n s))) (shifted_shifted_parts b c e m n h k xs)
+  coded_parts_shifted : (c n : ℕ) (xs : Parts) → coded_parts (shifted_parts c n xs) ≡ terms.shifted_args c n (coded_parts xs)
+  coded_parts_shifted c n no_parts = refl
+  coded_parts_shifted c n (part m s xs) = λ i. arg m (coded_shifted (c + m) n s i) (coded_parts_shifted c n xs i)
 
 pub under_at : (n : ℕ) (f : ℕ → SchemeTree) (i : ℕ) → i < n → under n f i ≡ local i
 under_at n f i h = grind (arith, nat_tests)
@@ -78,18 +81,40 @@ under_at n f i h = grind (arith, nat_tests)
 pub under_past : (n : ℕ) (f : ℕ → SchemeTree) (i : ℕ) → n ≤ i → under n f i ≡ shifted 0 n (f (i - n))
 under_past n f i h = grind (arith, nat_tests)
 
-under_under_at : (m n : ℕ) (f : ℕ → SchemeTree) (i : ℕ) → (i < n) ⊎ (n ≤ i) → (i < m + n) ⊎ (m + n ≤ i) → under n (under m f) i ≡ under (m + n) f i
-under_under_at m n f i (inl h) b = under_at n (under m f) i h ∙ sym (under_at (m + n) f i (omega arith))
-under_under_at m n f i (inr h) (inl k) =
-    under_past n (under m f) i h ∙ ap (shifted 0 n) (under_at m f (i - n) (omega arith))
-    ∙ ap local (let e : raised 0 n (i - n) ≡ i = grind (arith, nat_tests) in e) ∙ sym (under_at (m + n) f i k)
-under_under_at m n f i (inr h) (inr k) =
-    under_past n (under m f) i h ∙ ap (shifted 0 n) (under_past m f (i - n) (omega arith)) ∙ shifted_twice 0 m n (f (i - n - m))
-    ∙ ap (λ j. shifted 0 (m + n) (f j)) (let e : i - n - m ≡ i - (m + n) = omega arith in e) ∙ sym (under_past (m + n) f i k)
+coded_under : (n : ℕ) (f : ℕ → SchemeTree) (i : ℕ) → coded (under n f i) ≡ filling.under n (λ j. coded (f j)) i
+coded_under n f i = at (cases_lt i n)
+  where
+    at : (i < n) ⊎ (n ≤ i) → coded (under n f i) ≡ filling.under n (λ j. coded (f j)) i
+    at (inl h) = ap coded (under_at n f i h) ∙ sym (on_terms.under_at n (λ j. coded (f j)) i h)
+    at (inr h) = ap coded (under_past n f i h) ∙ coded_shifted 0 n (f (i - n)) ∙ sym (on_terms.under_past n (λ j. coded (f j)) i h)
+
+mutual
+  pub coded_filled : (f : ℕ → SchemeTree) (s : SchemeTree) → coded (filled f s) ≡ filling.filled (λ i. coded (f i)) (coded s)
+  coded_filled f (meta m vs) = ap (noted 0 m) (coded_values_filled f vs)
+  coded_filled f (known k) = refl
+  coded_filled f (local i) = refl
+  coded_filled f (con p xs) = ap (noted 2 p) (coded_parts_filled f xs)
+
+  coded_values_filled : (f : ℕ → SchemeTree) (vs : Values) → coded_values (filled_values f vs) ≡ filling.filled_args (λ i. coded (f i)) (coded_values vs)
+  coded_values_filled f no_values = refl
+  coded_values_filled f (value s vs) =
+      let here = coded_filled f s ∙ ap (λ g. filling.filled g (coded s)) (sym (on_terms.under_none (λ i. coded (f i)))) in
+      λ i. arg 0 (here i) (coded_values_filled f vs i)
+
+  coded_parts_filled : (f : ℕ → SchemeTree) (xs : Parts) → coded_parts (filled_parts f xs) ≡ filling.filled_args (λ i. coded (f i)) (coded_parts xs)
+  coded_parts_filled f no_parts = refl
+  coded_parts_filled f (part n s xs) =
+      let here = coded_filled (under n f) s ∙ ap (λ g. filling.filled g (coded s)) (λ k i. coded_under n f i k) in
+      λ i. arg n (here i) (coded_parts_filled f xs i)
 
 -- binders under binders
 pub under_under : (m n : ℕ) (f : ℕ → SchemeTree) → under n (under m f) ≡ under (m + n) f
-under_under m n f = λ k i. under_under_at m n f i (cases_lt i n) (cases_lt i (m + n)) k
+under_under m n f = λ k i. coded_injective (under n (under m f) i) (under (m + n) f i) (at i) k
+  where
+    at : (i : ℕ) → coded (under n (under m f) i) ≡ coded (under (m + n) f i)
+    at i =
+        coded_under n (under m f) i ∙ ap (λ g. filling.under n g i) (λ k j. coded_under m f j k)
+        ∙ ap (λ g. g i) (on_terms.under_under m n (λ j. coded (f j))) ∙ sym (coded_under (m + n) f i)
 
 pub under_none : (f : ℕ → SchemeTree) → under 0 f ≡ f
-under_none f = λ k i. (under_past 0 f i (omega arith) ∙ shifted_none 0 (f (i - 0)) ∙ ap f (let e : i - 0 ≡ i = omega arith in e)) k
+under_none f = λ k i. coded_injective (under 0 f i) (f i) (coded_under 0 f i ∙ ap (λ g. g i) (on_terms.under_none (λ j. coded (f j)))) k

@@ -1,107 +1,34 @@
 -- The laws of putting schemes in for all locals at once.
-use Rattle.std.proofs.Common.{◌≡◌, ◌⊎◌, ℕ, ◌+◌, ◌-◌, ◌<◌, ◌≤◌, inl, inr, refl, ap, ◌∙◌, sym, arith}
+use Rattle.std.proofs.Common.{◌≡◌, ◌⊎◌, ℕ, ◌+◌, ◌-◌, ◌<◌, ◌≤◌, inl, inr, refl, ap, ◌∙◌, sym, subst, arith}
 use Rattle.std.proofs.lemmas.Bool.{cases_lt}
 use Rattle.std.proofs.lemmas.Bool.Decides.{nat_tests}
+use Rattle.binding_terms.specs.Tree as terms
 use Rattle.binding_terms.specs.Tree.{raised}
-use Rattle.scheme_terms.specs.SchemeTree.{SchemeTree, meta, known, local, con, Values, no_values, value, Parts, no_parts, part, shifted, shifted_values, shifted_parts, under, filled, filled_values, filled_parts}
+use Rattle.binding_terms.specs.Substitution as filling
+use Rattle.binding_terms.proofs.Substitutions as on_terms
+use Rattle.scheme_terms.specs.SchemeTree.{SchemeTree, meta, known, local, con, Values, no_values, value, Parts, no_parts, part, shifted, under, filled, filled_values, filled_parts, IsFreeOf, AreFreeOf, PartsFreeOf}
 use Rattle.scheme_terms.specs.Substituting.{LocalsBelow, ValuesBelow, PartsBelow}
-use Rattle.scheme_terms.proofs.SchemeFilling.{under_at, under_past, shifted_shifted}
-
-raised_past : (c m n i : ℕ) → m ≤ i → raised (c + m) n i ≡ raised c n (i - m) + m
-raised_past c m n i h = grind (arith, nat_tests)
-
-raised_near : (c m n i : ℕ) → i < m → raised (c + m) n i ≡ i
-raised_near c m n i h = grind (arith, nat_tests)
-
--- raising before putting in
-before : (f : ℕ → SchemeTree) (c m n : ℕ) → (λ i. under m f (raised (c + m) n i)) ≡ under m (λ i. f (raised c n i))
-before f c m n = λ k i. at i (cases_lt i m) k
-  where
-    at : (i : ℕ) → (i < m) ⊎ (m ≤ i) → under m f (raised (c + m) n i) ≡ under m (λ i. f (raised c n i)) i
-    at i (inl h) = ap (under m f) (raised_near c m n i h) ∙ under_at m f i h ∙ sym (under_at m (λ j. f (raised c n j)) i h)
-    at i (inr h) =
-        ap (under m f) (raised_past c m n i h) ∙ under_past m f (raised c n (i - m) + m) (omega arith)
-        ∙ ap (λ j. shifted 0 m (f j)) (let e : raised c n (i - m) + m - m ≡ raised c n (i - m) = omega arith in e) ∙ sym (under_past m (λ j. f (raised c n j)) i h)
-
-mutual
-  pub filled_shifted : (f : ℕ → SchemeTree) (c n : ℕ) (s : SchemeTree) → filled f (shifted c n s) ≡ filled (λ i. f (raised c n i)) s
-  filled_shifted f c n (meta m vs) = ap (meta m) (filled_shifted_values f c n vs)
-  filled_shifted f c n (known k) = refl
-  filled_shifted f c n (local i) = refl
-  filled_shifted f c n (con p xs) = ap (con p) (filled_shifted_parts f c n xs)
-
-  filled_shifted_values : (f : ℕ → SchemeTree) (c n : ℕ) (vs : Values) → filled_values f (shifted_values c n vs) ≡ filled_values (λ i. f (raised c n i)) vs
-  filled_shifted_values f c n no_values = refl
-  filled_shifted_values f c n (value s vs) =
-      ap (λ t. value t (filled_values f (shifted_values c n vs))) (filled_shifted f c n s)
-      ∙ ap (value (filled (λ i. f (raised c n i)) s)) (filled_shifted_values f c n vs)
-
-  filled_shifted_parts : (f : ℕ → SchemeTree) (c n : ℕ) (xs : Parts) → filled_parts f (shifted_parts c n xs) ≡ filled_parts (λ i. f (raised c n i)) xs
-  filled_shifted_parts f c n no_parts = refl
-  filled_shifted_parts f c n (part m s xs) =
-      ap (λ t. part m t (filled_parts f (shifted_parts c n xs))) (filled_shifted (under m f) (c + m) n s ∙ ap (λ g. filled g s) (before f c m n))
-      ∙ ap (part m (filled (under m (λ i. f (raised c n i))) s)) (filled_shifted_parts f c n xs)
+use Rattle.scheme_terms.proofs.SchemeFilling.{coded, coded_injective, coded_shifted, coded_filled, under_at, under_past}
 
 -- raising after putting in
-after : (f : ℕ → SchemeTree) (c m n : ℕ) → (λ i. shifted (c + m) n (under m f i)) ≡ under m (λ i. shifted c n (f i))
-after f c m n = λ k i. at i (cases_lt i m) k
+pub shifted_filled : (f : ℕ → SchemeTree) (c n : ℕ) (s : SchemeTree) → shifted c n (filled f s) ≡ filled (λ i. shifted c n (f i)) s
+shifted_filled f c n s =
+    coded_injective (shifted c n (filled f s)) (filled (λ i. shifted c n (f i)) s)
+    (coded_shifted c n (filled f s) ∙ ap (terms.shifted c n) (coded_filled f s) ∙ on_terms.shifted_filled (λ i. coded (f i)) c n (coded s)
+    ∙ ap (λ g. filling.filled g (coded s)) (λ k i. coded_shifted_back i k) ∙ sym (coded_filled (λ i. shifted c n (f i)) s))
   where
-    at : (i : ℕ) → (i < m) ⊎ (m ≤ i) → shifted (c + m) n (under m f i) ≡ under m (λ i. shifted c n (f i)) i
-    at i (inl h) = ap (shifted (c + m) n) (under_at m f i h) ∙ ap local (raised_near c m n i h) ∙ sym (under_at m (λ j. shifted c n (f j)) i h)
-    at i (inr h) =
-        ap (shifted (c + m) n) (under_past m f i h) ∙ shifted_shifted 0 c (c + m) m n (omega arith) refl (f (i - m)) ∙ sym (under_past m (λ j. shifted c n (f j)) i h)
-
-mutual
-  pub shifted_filled : (f : ℕ → SchemeTree) (c n : ℕ) (s : SchemeTree) → shifted c n (filled f s) ≡ filled (λ i. shifted c n (f i)) s
-  shifted_filled f c n (meta m vs) = ap (meta m) (shifted_filled_values f c n vs)
-  shifted_filled f c n (known k) = refl
-  shifted_filled f c n (local i) = refl
-  shifted_filled f c n (con p xs) = ap (con p) (shifted_filled_parts f c n xs)
-
-  shifted_filled_values : (f : ℕ → SchemeTree) (c n : ℕ) (vs : Values) → shifted_values c n (filled_values f vs) ≡ filled_values (λ i. shifted c n (f i)) vs
-  shifted_filled_values f c n no_values = refl
-  shifted_filled_values f c n (value s vs) =
-      ap (λ t. value t (shifted_values c n (filled_values f vs))) (shifted_filled f c n s)
-      ∙ ap (value (filled (λ i. shifted c n (f i)) s)) (shifted_filled_values f c n vs)
-
-  shifted_filled_parts : (f : ℕ → SchemeTree) (c n : ℕ) (xs : Parts) → shifted_parts c n (filled_parts f xs) ≡ filled_parts (λ i. shifted c n (f i)) xs
-  shifted_filled_parts f c n no_parts = refl
-  shifted_filled_parts f c n (part m s xs) =
-      ap (λ t. part m t (shifted_parts c n (filled_parts f xs))) (shifted_filled (under m f) (c + m) n s ∙ ap (λ g. filled g s) (after f c m n))
-      ∙ ap (part m (filled (under m (λ i. shifted c n (f i))) s)) (shifted_filled_parts f c n xs)
+    coded_shifted_back : (i : ℕ) → terms.shifted c n (coded (f i)) ≡ coded (shifted c n (f i))
+    coded_shifted_back i = sym (coded_shifted c n (f i))
 
 -- putting in twice
-both : (f g : ℕ → SchemeTree) (m : ℕ) → (λ i. filled (under m g) (under m f i)) ≡ under m (λ i. filled g (f i))
-both f g m = λ k i. at i (cases_lt i m) k
+pub filled_filled : (f g : ℕ → SchemeTree) (s : SchemeTree) → filled g (filled f s) ≡ filled (λ i. filled g (f i)) s
+filled_filled f g s =
+    coded_injective (filled g (filled f s)) (filled (λ i. filled g (f i)) s)
+    (coded_filled g (filled f s) ∙ ap (filling.filled (λ i. coded (g i))) (coded_filled f s) ∙ on_terms.filled_filled (λ i. coded (f i)) (λ i. coded (g i)) (coded s)
+    ∙ ap (λ h. filling.filled h (coded s)) (λ k i. coded_filled_back i k) ∙ sym (coded_filled (λ i. filled g (f i)) s))
   where
-    inner : ◌≡◌ {A = ℕ → SchemeTree} (λ j. under m g (raised 0 m j)) (λ j. shifted 0 m (g j))
-    inner = λ k j. (under_past m g (raised 0 m j) (let e : m ≤ raised 0 m j = grind (arith, nat_tests) in e)
-        ∙ ap (λ l. shifted 0 m (g l)) (let e : raised 0 m j - m ≡ j = grind (arith, nat_tests) in e)) k
-
-    at : (i : ℕ) → (i < m) ⊎ (m ≤ i) → filled (under m g) (under m f i) ≡ under m (λ i. filled g (f i)) i
-    at i (inl h) = ap (filled (under m g)) (under_at m f i h) ∙ under_at m g i h ∙ sym (under_at m (λ j. filled g (f j)) i h)
-    at i (inr h) =
-        ap (filled (under m g)) (under_past m f i h) ∙ filled_shifted (under m g) 0 m (f (i - m)) ∙ ap (λ e. filled e (f (i - m))) inner
-        ∙ sym (shifted_filled g 0 m (f (i - m))) ∙ sym (under_past m (λ j. filled g (f j)) i h)
-
-mutual
-  pub filled_filled : (f g : ℕ → SchemeTree) (s : SchemeTree) → filled g (filled f s) ≡ filled (λ i. filled g (f i)) s
-  filled_filled f g (meta m vs) = ap (meta m) (filled_filled_values f g vs)
-  filled_filled f g (known k) = refl
-  filled_filled f g (local i) = refl
-  filled_filled f g (con p xs) = ap (con p) (filled_filled_parts f g xs)
-
-  filled_filled_values : (f g : ℕ → SchemeTree) (vs : Values) → filled_values g (filled_values f vs) ≡ filled_values (λ i. filled g (f i)) vs
-  filled_filled_values f g no_values = refl
-  filled_filled_values f g (value s vs) =
-      ap (λ t. value t (filled_values g (filled_values f vs))) (filled_filled f g s)
-      ∙ ap (value (filled (λ i. filled g (f i)) s)) (filled_filled_values f g vs)
-
-  filled_filled_parts : (f g : ℕ → SchemeTree) (xs : Parts) → filled_parts g (filled_parts f xs) ≡ filled_parts (λ i. filled g (f i)) xs
-  filled_filled_parts f g no_parts = refl
-  filled_filled_parts f g (part m s xs) =
-      ap (λ t. part m t (filled_parts g (filled_parts f xs))) (filled_filled (under m f) (under m g) s ∙ ap (λ e. filled e s) (both f g m))
-      ∙ ap (part m (filled (under m (λ i. filled g (f i))) s)) (filled_filled_parts f g xs)
+    coded_filled_back : (i : ℕ) → filling.filled (λ j. coded (g j)) (coded (f i)) ≡ coded (filled g (f i))
+    coded_filled_back i = sym (coded_filled g (f i))
 
 -- what is put in for the free locals alone counts
 agree_under : (n k : ℕ) (f g : ℕ → SchemeTree) → ((i : ℕ) → i < k → f i ≡ g i) → (i : ℕ) → i < k + n → (i < n) ⊎ (n ≤ i) → under n f i ≡ under n g i
@@ -125,3 +52,35 @@ mutual
   filled_agree_parts k f g h (part n s xs) below =
       ap (λ t. part n t (filled_parts f xs)) (filled_agree (k + n) (under n f) (under n g) (λ i low. agree_under n k f g h i low (cases_lt i n)) s below.0)
       ∙ ap (part n (filled (under n g) s)) (filled_agree_parts k f g h xs below.1)
+
+-- what is put in stands for each local that occurs
+under_stays : (n : ℕ) (f : ℕ → SchemeTree) (s : SchemeTree) → ((i : ℕ) → (f i ≡ local i) ⊎ IsFreeOf (i + n) s) → (i : ℕ) → (i < n) ⊎ (n ≤ i) → (under n f i ≡ local i) ⊎ IsFreeOf i s
+under_stays n f s h i (inl near) = inl (under_at n f i near)
+under_stays n f s h i (inr far) = elim (h (i - n)) [
+  | inl e ↦ inl (under_past n f i far ∙ ap (shifted 0 n) e ∙ ap local (let same : raised 0 n (i - n) ≡ i = grind (arith, nat_tests) in same))
+  | inr free ↦ inr (subst (λ k. IsFreeOf k s) (let same : i - n + n ≡ i = omega arith in same) free)
+]
+
+mutual
+  pub filled_stays : (f : ℕ → SchemeTree) (s : SchemeTree) → ((i : ℕ) → (f i ≡ local i) ⊎ IsFreeOf i s) → filled f s ≡ s
+  filled_stays f (meta m vs) h = ap (meta m) (filled_stays_values f vs h)
+  filled_stays f (known k) h = refl
+  filled_stays f (local i) h = elim (h i) [ inl e ↦ e | inr free ↦ absurd (free refl) ]
+  filled_stays f (con p xs) h = ap (con p) (filled_stays_parts f xs h)
+
+  filled_stays_values : (f : ℕ → SchemeTree) (vs : Values) → ((i : ℕ) → (f i ≡ local i) ⊎ AreFreeOf i vs) → filled_values f vs ≡ vs
+  filled_stays_values f no_values h = refl
+  filled_stays_values f (value s vs) h =
+      ap (λ t. value t (filled_values f vs)) (filled_stays f s (λ i. elim (h i) [ inl e ↦ inl e | inr free ↦ inr free.0 ]))
+      ∙ ap (value s) (filled_stays_values f vs (λ i. elim (h i) [ inl e ↦ inl e | inr free ↦ inr free.1 ]))
+
+  filled_stays_parts : (f : ℕ → SchemeTree) (xs : Parts) → ((i : ℕ) → (f i ≡ local i) ⊎ PartsFreeOf i xs) → filled_parts f xs ≡ xs
+  filled_stays_parts f no_parts h = refl
+  filled_stays_parts f (part n s xs) h =
+      ap (λ t. part n t (filled_parts f xs))
+      (filled_stays (under n f) s (λ i. under_stays n f s (λ j. elim (h j) [ inl e ↦ inl e | inr free ↦ inr free.0 ]) i (cases_lt i n)))
+      ∙ ap (part n s) (filled_stays_parts f xs (λ i. elim (h i) [ inl e ↦ inl e | inr free ↦ inr free.1 ]))
+
+-- the locals put in for themselves
+pub filled_local : (s : SchemeTree) → filled local s ≡ s
+filled_local s = filled_stays local s (λ i. inl refl)

@@ -67,7 +67,7 @@ context_form : (sig : Signature) (p : Prod) (o : Option Cat) → MatchOption o �
 context_form sig p None h k = absurd h
 context_form sig p (Some cat) h k = subst (λ b. MatchBool b (IsContextForm sig p) (AllByRecursion (λ s. IsPlain sig s.cat) (slots p.items))) h k
 
-entry_adds_one : (sig : Signature) → Fits sig → (c : ℕ) → IsContext sig c → (scope : List ℕ) (e : GroundEntry) → IsEntry sig c scope e → length (variables sig e.prod) ≡ 1
+pub entry_adds_one : (sig : Signature) → Fits sig → (c : ℕ) → IsContext sig c → (scope : List ℕ) (e : GroundEntry) → IsEntry sig c scope e → length (variables sig e.prod) ≡ 1
 entry_adds_one sig fits c context scope e h =
     let found = match_some (slice_get sig.prods e.prod) _ h in
     let prod : Prod = found.0 in
@@ -76,7 +76,7 @@ entry_adds_one sig fits c context scope e h =
     let stored : variables sig e.prod ≡ reverse (binders prod.items) = ap (λ o. unwrap_or (option_map (λ (p : Prod). reverse (binders p.items)) o) []) found.1 in
     ap length stored ∙ length-reverse (binders prod.items) ∙ form_adds_one sig prod form found.2.1
 
-entries_add_one : (sig : Signature) → Fits sig → (c : ℕ) → IsContext sig c → (scope : List ℕ) (es : List GroundEntry) → AreEntries sig c scope es → AddOne sig es
+pub entries_add_one : (sig : Signature) → Fits sig → (c : ℕ) → IsContext sig c → (scope : List ℕ) (es : List GroundEntry) → AreEntries sig c scope es → AddOne sig es
 entries_add_one sig fits c context scope [] h = tt
 entries_add_one sig fits c context scope (e ∷ es) h =
     (entry_adds_one sig fits c context scope e h.0, entries_add_one sig fits c context (variables sig e.prod ++ scope) es h.1)

@@ -6,6 +6,8 @@ use Rattle.binding_terms.specs.Signature.{Signature, Fits}
 use Rattle.binding_terms.specs.Scope.{IsTerm}
 use Rattle.scheme_terms.specs.SchemeTree.{SchemeTree, shifted, StrictIn, OccursIn, KnownIn}
 use Rattle.scheme_terms.specs.Forms.{Names, Substitution, Instance}
+use Rattle.scheme_terms.specs.Embedding.{embedded}
+use Rattle.scheme_terms.specs.Demands.{Demands}
 use Rattle.scheme_terms.specs.Context.{scope_of}
 use Rattle.scheme_terms.specs.Instance.{instance_of, value_of, place_of, FitsScope}
 use Rattle.scheme_terms.specs.SchemeScope.{IsScheme, IsRoot, KnownsFit}
@@ -49,6 +51,20 @@ StrictAgreementInScope =
     (sig : Signature) (scope : Names) (first second : Instance) (locals : List ℕ) (c m : ℕ) (s : SchemeTree) →
     FitsScope sig scope first → FitsScope sig scope second → IsScheme sig scope locals c s → StrictIn m s →
     instance_of first (length locals) s ≡ instance_of second (length locals) s → slice_get first.metas m ≡ slice_get second.metas m
+
+-- where a pattern becomes its instance, what is asked of a metavariable is its value, and a strict occurrence asks for it
+abbrev pub InstanceAsksForValues : Type 0
+InstanceAsksForValues =
+    (inst : Instance) (m d : ℕ) (s : SchemeTree) → LocalsBelow d s →
+    ((v : SchemeTree) → Demands m d s (embedded (instance_of inst d s)) v → v ≡ embedded (value_of inst m))
+    × (StrictIn m s → Demands m d s (embedded (instance_of inst d s)) (embedded (value_of inst m)))
+
+-- the same where schemes are put in for its names
+abbrev pub SubstitutionAsksForSchemes : Type 0
+SubstitutionAsksForSchemes =
+    (by : Substitution) (m d : ℕ) (s : SchemeTree) → LocalsBelow d s →
+    ((v : SchemeTree) → Demands m d s (applied by.metas by.knowns d s) v → v ≡ scheme_for by.metas m)
+    × (StrictIn m s → Demands m d s (applied by.metas by.knowns d s) (scheme_for by.metas m))
 
 -- a scheme whose names have values suits all locals around it alike
 abbrev pub AppliedAnywhere : Type 0

@@ -19,9 +19,10 @@ pub fn copy_scheme(alloc: Global, s: &Scheme) -> Result<Scheme, NoMemory>
     }
 }
 
+/// The same schemes again.
 #[cycle(copy)]
 #[tactic(auto, using(crate::proofs::Parts::done_copied_values))]
-fn copy_values(alloc: Global, args: &[Scheme]) -> Result<Items<Scheme>, NoMemory>
+pub fn copy_values(alloc: Global, args: &[Scheme]) -> Result<Items<Scheme>, NoMemory>
     ensures { IfOk result (λ all. map scheme all ≡ map scheme args.now) }
 {
     let mut all = Items::new(alloc);
@@ -47,14 +48,6 @@ fn copy_parts(alloc: Global, parts: &[SArg]) -> Result<Items<SArg>, NoMemory>
     Ok(all)
 }
 
-fn copy_text(alloc: Global, text: &Text) -> Result<Text, NoMemory>
-    ensures { IfOk result (λ new. new ≡ text.now) }
-{
-    let mut new = Text::new(alloc);
-    new.push(text.bytes())?;
-    Ok(new)
-}
-
 /// The same entry again.
 pub fn copy_entry(alloc: Global, entry: &SEntry) -> Result<SEntry, NoMemory>
     ensures { IfOk result (λ new. scheme_entry new ≡ scheme_entry entry.now) }
@@ -66,11 +59,12 @@ pub fn copy_entry(alloc: Global, entry: &SEntry) -> Result<SEntry, NoMemory>
     })
 }
 
-fn copy_meta(alloc: Global, decl: &MetaDecl) -> Result<MetaDecl, NoMemory>
+/// The same metavariable again.
+pub fn copy_meta(alloc: Global, decl: &MetaDecl) -> Result<MetaDecl, NoMemory>
     ensures { IfOk result (λ new. new ≡ decl.now) }
 {
     Ok(MetaDecl {
-        name: copy_text(alloc, &decl.name)?,
+        name: Text::of(alloc, decl.name.bytes())?,
         cat: decl.cat,
         params: Items::from_slice(alloc, decl.params.as_slice())?,
     })
@@ -80,13 +74,14 @@ fn copy_known(alloc: Global, decl: &KnownDecl) -> Result<KnownDecl, NoMemory>
     ensures { IfOk result (λ new. known_variable new ≡ known_variable decl.now) }
 {
     Ok(KnownDecl {
-        name: copy_text(alloc, &decl.name)?,
+        name: Text::of(alloc, decl.name.bytes())?,
         entry: copy_entry(alloc, &decl.entry)?,
     })
 }
 
+/// The same metavariables again.
 #[tactic(auto, using(std::proofs::lemmas::List::take_all))]
-fn copy_metas(alloc: Global, decls: &[MetaDecl]) -> Result<Items<MetaDecl>, NoMemory>
+pub fn copy_metas(alloc: Global, decls: &[MetaDecl]) -> Result<Items<MetaDecl>, NoMemory>
     ensures { IfOk result (λ all. all ≡ decls.now) }
 {
     let mut all = Items::new(alloc);

@@ -9,16 +9,8 @@ use binding_terms::NoMemory;
 use sqlite_items::Items;
 use std::alloc::Global;
 
-fn id(number: usize) -> Result<u32, NoMemory>
-    ensures { IfOk result (λ id. id ≡ number) }
-{
-    if number > u32::MAX as usize {
-        return Err(NoMemory);
-    }
-    Ok(number as u32)
-}
-
-fn make_parameters(alloc: Global, count: usize) -> Result<Items<Scheme>, NoMemory>
+/// The parameters of a metavariable in their order, as its innermost locals.
+pub fn make_parameters(alloc: Global, count: usize) -> Result<Items<Scheme>, NoMemory>
     ensures { IfOk result (λ all. map scheme all ≡ parameters count) }
 {
     let mut all = Items::new(alloc);
@@ -36,7 +28,7 @@ fn make_metas(alloc: Global, decls: &[MetaDecl]) -> Result<Items<Scheme>, NoMemo
     let mut all = Items::new(alloc);
     for number in 0..decls.len() {
         let args = make_parameters(alloc, decls[number].params.len())?;
-        all.push(Scheme::Meta(MetaId(id(number)?), args))?;
+        all.push(Scheme::Meta(MetaId(binding_terms::number(number)?), args))?;
     }
     Ok(all)
 }
@@ -46,7 +38,7 @@ fn make_knowns(alloc: Global, decls: &[KnownDecl]) -> Result<Items<u32>, NoMemor
 {
     let mut all = Items::new(alloc);
     for number in 0..decls.len() {
-        all.push(id(number)?)?;
+        all.push(binding_terms::number(number)?)?;
     }
     Ok(all)
 }

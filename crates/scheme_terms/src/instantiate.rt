@@ -101,7 +101,12 @@ fn stored(inst: &Inst, m: MetaId) -> Option<&Term>
 }
 
 /// A value with its arguments put in. Without arguments it is shared, where no local has to be skipped.
-fn put_in(alloc: Global, value: &Term, args: &[Term], locals: usize) -> Result<Term, NoMemory>
+pub(crate) fn put_in(
+    alloc: Global,
+    value: &Term,
+    args: &[Term],
+    locals: usize,
+) -> Result<Term, NoMemory>
     ensures { IfOk result (λ t. tree t ≡ filled (argument_or_root locals (map tree args.now)) (tree value.now)) }
 {
     if args.len() == 0 {

@@ -7,7 +7,7 @@ ghost use Rattle.binding_terms.specs.View.{tree};
 ghost use Rattle.scheme_terms.specs.Instance.{instance_of};
 ghost use Rattle.scheme_terms.specs.Substituting.{applied, composed, followed, Suits, IsSaturated};
 ghost use Rattle.scheme_terms.specs.View.{scheme, substitution, instance as view};
-ghost use Rattle.scheme_terms.specs.Laws.{InstanceOfApplied, InstanceOfAppliedScheme, InstanceKeepsScope, InstanceKeepsScopeOfMetas, StrictAgreement, StrictAgreementInScope, AppliedAnywhere, AppliedRaised, AppliedTwice, ShiftKeepsScheme, ApplyKeepsScope, AppliedTwiceInScope, ComposedIsSubstitution, FollowedFits, InstanceRaised, SubstitutionsAgree, InstancesAgree, IdentityChangesNothing, IdentityKeepsSchemes, IdentityIsSubstitution};
+ghost use Rattle.scheme_terms.specs.Laws.{InstanceOfApplied, InstanceOfAppliedScheme, InstanceKeepsScope, InstanceKeepsScopeOfMetas, StrictAgreement, StrictAgreementInScope, InstanceAsksForValues, SubstitutionAsksForSchemes, AppliedAnywhere, AppliedRaised, AppliedTwice, ShiftKeepsScheme, ApplyKeepsScope, AppliedTwiceInScope, ComposedIsSubstitution, FollowedFits, InstanceRaised, SubstitutionsAgree, InstancesAgree, IdentityChangesNothing, IdentityKeepsSchemes, IdentityIsSubstitution};
 
 use crate::instantiate::instance;
 use crate::scheme::{Inst, MetaDecl, Scheme, Subst};
@@ -29,11 +29,13 @@ pub fn instance_keeps_scope()
     ensures of_metas { InstanceKeepsScopeOfMetas }
 {}
 
-/// Two instances that give a scheme the same instance give the same value to a metavariable with a strict occurrence in it.
-#[tactic(auto, using(crate::proofs::StrictAgreements::strict_agreement, crate::proofs::StrictAgreements::strict_agreement_in_scope))]
+/// A strict occurrence tells the value of its metavariable: two instances that give a scheme the same instance give the same value
+/// to a metavariable with a strict occurrence in it, which is what that occurrence asks for.
 pub fn strict_agreement()
     ensures of_locals { StrictAgreement }
     ensures in_scope { StrictAgreementInScope }
+    ensures asked { InstanceAsksForValues }
+    ensures asked_of_schemes { SubstitutionAsksForSchemes }
 {}
 
 /// The locals around a scheme do not count where each name has a value, and raising goes before or after.

@@ -35,7 +35,8 @@ fn begins_apart(args: &[Scheme], at: usize) -> bool
     }
 }
 
-fn are_distinct_locals(args: &[Scheme]) -> bool
+/// Whether the schemes are distinct locals.
+pub fn are_distinct_locals(args: &[Scheme]) -> bool
     ensures { IsTrue result ↔ AreDistinctLocals (values (map scheme args.now)) }
 {
     for at in 0..args.len() {

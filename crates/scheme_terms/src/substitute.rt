@@ -96,7 +96,12 @@ fn fill_parts(
 }
 
 /// The scheme with arguments put in for its locals.
-fn put_in(alloc: Global, s: &Scheme, args: &[Scheme], locals: usize) -> Result<Scheme, NoMemory>
+pub(crate) fn put_in(
+    alloc: Global,
+    s: &Scheme,
+    args: &[Scheme],
+    locals: usize,
+) -> Result<Scheme, NoMemory>
     ensures { IfOk result (λ new. scheme new ≡ filled (argument_or_local locals (map scheme args.now)) (scheme s.now)) }
 {
     fill(alloc, s, 0, args, locals)
@@ -137,7 +142,7 @@ fn known_value(by: &Subst, k: u32) -> u32
 
 /// The same as `apply` for a scheme under so many locals.
 #[cycle(apply)]
-fn apply_under(alloc: Global, s: &Scheme, by: &Subst, locals: usize) -> Result<Scheme, NoMemory>
+pub fn apply_under(alloc: Global, s: &Scheme, by: &Subst, locals: usize) -> Result<Scheme, NoMemory>
     ensures { IfOk result (λ new. scheme new ≡ applied (substitution by.now).metas (substitution by.now).knowns locals (scheme s.now)) }
 {
     match s {

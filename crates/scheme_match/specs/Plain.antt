@@ -1,9 +1,0 @@
--- The condition under which patterns are matched so far: nothing binds, and no metavariable takes parameters.
-use Rattle.std.specs.Prelude.{◌≡◌, List, []}
-use Rattle.std.specs.List.{AllByRecursion}
-pub use Rattle.binding_terms.specs.Signature.{NothingBinds}
-use Rattle.scheme_terms.specs.declared.scheme.MetaDecl.{MetaDecl}
-
--- no metavariable takes parameters
-abbrev pub HaveNoParameters : List MetaDecl → Type 0
-HaveNoParameters metas = AllByRecursion (λ m. m.params ≡ []) metas

@@ -1,0 +1,15 @@
+use Rattle.std.proofs.Common.{◌≡◌, ◌++◌, map}
+use Rattle.binding_terms.specs.Tree.{var}
+use Rattle.binding_terms.specs.View.{tree}
+use Rattle.scheme_terms.specs.SchemeTree.{values}
+use Rattle.scheme_terms.specs.Demands.{numbers, parameters_of}
+use Rattle.scheme_terms.specs.View.{scheme}
+use Rattle.scheme_terms.proofs.demand.parameter_terms.Given as goal
+
+abbrev pub invariant-loop-left : goal.invariant-loop-left
+invariant-loop-left l =
+    map tree l.all.items ++ map var (parameters_of (numbers (values (map scheme l.args))) l.left)
+    ≡ map var (parameters_of (numbers (values (map scheme l.args))) l.locals)
+
+abbrev pub decreases-loop-left : goal.decreases-loop-left
+decreases-loop-left l = l.left
