@@ -1,69 +1,66 @@
--- The substitution that gives each name what is asked of it is the only one that fits.
-use Rattle.std.proofs.Common.{◌≡◌, ◌↔◌, ℕ, ◌+◌, true, List, [], ◌∷◌, length, Some, slice_get, inl, inr, ap, ◌∙◌, sym, subst, arith}
-use Rattle.std.specs.List.{AllByRecursion}
-use Rattle.binding_terms.specs.Numbered.{AnyByRecursion, AllNumbered}
-use Rattle.binding_terms.specs.Signature.{Signature}
-use Rattle.scheme_terms.specs.SchemeTree.{SchemeTree, meta, no_values, StrictIn}
-use Rattle.scheme_terms.specs.Forms.{Names}
-use Rattle.scheme_terms.specs.SchemeScope.{IsScheme}
-use Rattle.scheme_terms.specs.Substituting.{applied}
-use Rattle.scheme_terms.specs.declared.scheme.MetaDecl.{MetaDecl}
-use Rattle.pattern_unify.specs.Equations.{SchemeEquation}
-use Rattle.pattern_unify.specs.Plain.{NothingBinds, HaveNoParameters}
-use Rattle.pattern_unify.specs.Fit.{AreSides, own_parameters, Stays, Becomes}
-use Rattle.pattern_unify.specs.Demands.{is_among, demands, all_demands}
-use Rattle.pattern_unify.proofs.Places.{among, within, numbered_at}
-use Rattle.pattern_unify.proofs.PlainSchemes.{plain_scheme, all_at}
-use Rattle.pattern_unify.proofs.Solving.{Met, met_joined, Keeps, met_demands, Each, each_joined, OfFlexible, of_flexible, Asks, asks_first, asks_later, asks_strict}
-use Rattle.pattern_unify.proofs.Categories.{OfItsCategory, of_category}
+-- What the end of a run says of the equations.
+use Rattle.std.proofs.Common.{◌≡◌, ◌⊎◌, ℕ, List, map, inl, inr, refl, ap, subst, sym, arith}
+use Rattle.binding_terms.specs.Signature.{Signature, Fits}
+use Rattle.scheme_terms.specs.Forms.{Names, Substitution, Instance}
+use Rattle.scheme_terms.specs.Substituting.{composed}
+use Rattle.pattern_unify.specs.Equations.{SchemeEquation, AreToUnify}
+use Rattle.pattern_unify.specs.CommonInstance.{IsCommonInstance, IsCommonGroundInstance, HaveCommonInstance}
+use Rattle.pattern_unify.specs.State.{State, names_of, start}
+use Rattle.pattern_unify.specs.Run.{End, solved, clashed, stuck, Runs, is_solved, is_stuck, has_clash, turns, EndsStuck, IsWithinFragment}
+use Rattle.pattern_unify.specs.Laws.{IsState}
+use Rattle.pattern_unify.specs.CommonLaws.{IsOfState, IsGroundOfState}
+use Rattle.pattern_unify.specs.LeftNames.{left_names}
+use Rattle.pattern_unify.specs.Answers.{UnifyAnswer, unifier, no_unifier, outside, IsUnifyAnswer}
+use Rattle.pattern_unify.proofs.RunFunction.{run_is_function}
+use Rattle.pattern_unify.proofs.Ending.{start_is_state}
+use Rattle.pattern_unify.proofs.StatesKept.{turn_keeps_state}
+use Rattle.pattern_unify.proofs.TurnInstances.{turn_keeps_common_instances}
+use Rattle.pattern_unify.proofs.GroundTurns.{ground_instances_stay}
+use Rattle.pattern_unify.proofs.GroundClashing.{clash_has_none}
+use Rattle.pattern_unify.proofs.RunInstances.{start_has_common_instances, start_has_ground_instances}
+use Rattle.pattern_unify.proofs.SolvedRuns.{left_is_most_general}
 
-module _ (sig : Signature) (names : Names) (fl : List ℕ) where
-  sides_at : (e : SchemeEquation) → e.locals ≡ [] → AreSides sig names e → (c : ℕ) × IsScheme sig names [] c e.left × IsScheme sig names [] c e.right
-  sides_at e l h =
-      (h.0, subst (λ ls. IsScheme sig names ls h.0 e.left) l h.1, subst (λ ls. IsScheme sig names ls h.0 e.right) l h.2)
+abbrev kind : End → ℕ
+kind (solved st) = 0
+kind clashed = 1
+kind (stuck st) = 2
 
-  pub of_flexible_all : (es : List SchemeEquation) → Each (OfFlexible fl) (all_demands fl es)
-  of_flexible_all [] = tt
-  of_flexible_all (e ∷ es) = each_joined (OfFlexible fl) (demands fl e.left e.right) (all_demands fl es) (of_flexible fl e.left e.right) (of_flexible_all es)
+within : (sig : Signature) (names : Names) (eqs : List SchemeEquation) (end : End) → Runs sig (start names eqs) end → (kind end ≡ 2 → ⊥) → IsWithinFragment sig names eqs
+within sig names eqs end run other left ends = other (ap kind (run_is_function sig (start names eqs) end (stuck ends.st) run ends.runs))
 
-  pub asks_all : (m : ℕ) → is_among m fl ≡ true → (es : List SchemeEquation) → AnyByRecursion (λ e. StrictIn m e.left) es → Asks m (all_demands fl es)
-  asks_all m k [] h = absurd h
-  asks_all m k (e ∷ es) (inl h) = asks_first m (demands fl e.left e.right) (all_demands fl es) (asks_strict fl m k e.left e.right h)
-  asks_all m k (e ∷ es) (inr h) = asks_later m (demands fl e.left e.right) (all_demands fl es) (asks_all m k es h)
+-- a run that ends with a clash has no common instance at its first state
+clashed_has_none : (sig : Signature) (names : Names) (st : State) (end : End) → Fits sig → IsState sig names st → Runs sig st end → kind end ≡ 1 →
+    ((by : Substitution) → IsOfState sig st by → ⊥) × ((inst : Instance) → IsGroundOfState sig names st inst → ⊥)
+clashed_has_none sig names st end fits state (is_solved s h) e = absurd (omega (arith, e))
+clashed_has_none sig names st end fits state (is_stuck s h) e = absurd (omega (arith, e))
+clashed_has_none sig names st end fits state (has_clash s turn) e =
+    ((λ by o. clash_has_none sig names s fits state turn (inl (o.after, o.common))), (λ inst o. clash_has_none sig names s fits state turn (inr (o.after, o.common))))
+clashed_has_none sig names st end fits state (turns s next last turn rest) e =
+    let later = clashed_has_none sig names next last fits (turn_keeps_state sig names s next fits state turn) rest e in (
+      (λ by o. later.0 by ((turn_keeps_common_instances sig names s next by fits state turn).0 o)),
+      (λ inst o. later.1 inst (ground_instances_stay sig names s next inst state turn o)),
+    )
 
-  module _ (slots_bind : NothingBinds sig) (metas : HaveNoParameters names.metas) (knowns : names.knowns ≡ []) where
-    pub of_category_all : (es : List SchemeEquation) → AllByRecursion (λ e. e.locals ≡ []) es → AllByRecursion (AreSides sig names) es →
-        Each (OfItsCategory sig names names) (all_demands fl es)
-    of_category_all [] l h = tt
-    of_category_all (e ∷ es) l h =
-        let sides = sides_at e l.0 h.0 in
-        each_joined (OfItsCategory sig names names) (demands fl e.left e.right) (all_demands fl es)
-        (of_category sig names names slots_bind fl sides.0 e.left e.right sides.1 sides.2) (of_category_all es l.1 h.1)
+pub solved_answer : (sig : Signature) (names : Names) (eqs : List SchemeEquation) (st : State) (by : Substitution) → Fits sig → AreToUnify sig names eqs →
+    Runs sig (start names eqs) (solved st) → by ≡ composed st.so_far (left_names st) → IsUnifyAnswer sig names eqs (unifier by)
+solved_answer sig names eqs st by fits owed run same =
+    subst (λ b. IsUnifyAnswer sig names eqs (unifier b)) (sym same) (record {
+      most_general = left_is_most_general sig names eqs st fits owed run;
+      within = within sig names eqs (solved st) run (λ e. absurd (omega (arith, e)));
+    })
 
-    met_one : (ss : List SchemeTree) (ks : List ℕ) → Keeps fl ss (length names.metas) → (e : SchemeEquation) → e.locals ≡ [] → AreSides sig names e →
-        Met ss (demands fl e.left e.right) ↔ Becomes ss ks e
-    met_one ss ks keeps e l h =
-        let sides = sides_at e l h in
-        let is = met_demands fl ss ks (length names.metas) (length names.metas) keeps e.left e.right
-        (plain_scheme sig names slots_bind metas knowns sides.0 e.left sides.1) (plain_scheme sig names slots_bind metas knowns sides.0 e.right sides.2) in
-        let depth : applied ss ks (length e.locals) e.left ≡ applied ss ks 0 e.left = ap (λ ls. applied ss ks (length ls) e.left) l in
-        (λ k. depth ∙ is.0 k, λ k. is.1 (sym depth ∙ k))
+pub clashed_answer : (sig : Signature) (names : Names) (eqs : List SchemeEquation) → Fits sig → AreToUnify sig names eqs →
+    Runs sig (start names eqs) clashed → IsUnifyAnswer sig names eqs no_unifier
+clashed_answer sig names eqs fits owed run =
+    let none = clashed_has_none sig names (start names eqs) clashed fits (start_is_state sig names eqs fits owed) run refl in
+    record {
+      none = λ has. elim has [
+        | inl one ↦ none.0 one.0 ((start_has_common_instances sig names eqs one.0 fits owed).0 one.1)
+        | inr one ↦ none.1 one.0 (start_has_ground_instances sig names eqs one.0 owed one.1)
+      ];
+      within = within sig names eqs clashed run (λ e. absurd (omega (arith, e)));
+    }
 
-    pub met_all : (ss : List SchemeTree) (ks : List ℕ) → Keeps fl ss (length names.metas) → (es : List SchemeEquation) →
-        AllByRecursion (λ e. e.locals ≡ []) es → AllByRecursion (AreSides sig names) es → Met ss (all_demands fl es) ↔ AllByRecursion (Becomes ss ks) es
-    met_all ss ks keeps [] l h = (λ k. tt, λ k. tt)
-    met_all ss ks keeps (e ∷ es) l h =
-        let both = met_joined ss (demands fl e.left e.right) (all_demands fl es) in
-        let first = met_one ss ks keeps e l.0 h.0 in
-        let rest = met_all ss ks keeps es l.1 h.1 in
-        (λ k. (first.0 (both.0 k).0, rest.0 (both.0 k).1), λ k. both.1 (first.1 k.0, rest.1 k.1))
-
-    pub itself_is : (m : ℕ) (decl : MetaDecl) → slice_get names.metas m ≡ Some decl → meta m (own_parameters (length decl.params)) ≡ meta m no_values
-    itself_is m decl e = ap (λ ps. meta m (own_parameters (length ps))) (all_at (λ d. d.params ≡ []) names.metas m decl metas e)
-
-    pub keeps_from_stays : (ss : List SchemeTree) → AllNumbered (Stays fl ss) 0 names.metas → Keeps fl ss (length names.metas)
-    keeps_from_stays ss h m below other =
-        let decl = within names.metas m below in
-        let stays : Stays fl ss m decl.0 =
-        subst (λ k. Stays fl ss k decl.0) (let e : 0 + m ≡ m = omega arith in e) (numbered_at (Stays fl ss) 0 names.metas m decl.0 h decl.1) in
-        stays (λ k. let yes = among m fl k in cc) ∙ itself_is m decl.0 decl.1
+pub stuck_answer : (sig : Signature) (names : Names) (eqs : List SchemeEquation) (st : State) → Runs sig (start names eqs) (stuck st) →
+    IsUnifyAnswer sig names eqs (outside st.equations)
+stuck_answer sig names eqs st run = record { st = st; runs = run; same = refl }

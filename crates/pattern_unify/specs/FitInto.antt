@@ -1,24 +1,28 @@
 -- The substitution of one scope by schemes of another that makes each left side its right side.
-use Rattle.std.specs.Prelude.{◌≡◌, ℕ, List, [], Option, Some, None}
+use Rattle.std.specs.Prelude.{◌≡◌, ℕ, List, [], length, Option, Some, None}
 use Rattle.std.specs.List.{AllByRecursion}
 use Rattle.binding_terms.specs.Numbered.{AnyByRecursion, AllNumbered}
 use Rattle.binding_terms.specs.Signature.{Signature}
-use Rattle.scheme_terms.specs.SchemeTree.{StrictIn}
+use Rattle.scheme_terms.specs.SchemeTree.{SchemeTree, StrictIn}
 use Rattle.scheme_terms.specs.Forms.{Names, Substitution}
 use Rattle.scheme_terms.specs.SchemeScope.{IsScheme}
-use Rattle.scheme_terms.specs.Substituting.{IsSubstitution}
+use Rattle.scheme_terms.specs.Substituting.{applied, IsSubstitution}
 use Rattle.pattern_unify.specs.Equations.{SchemeEquation}
-use Rattle.pattern_unify.specs.Plain.{NothingBinds, HaveNoParameters}
-use Rattle.pattern_unify.specs.Fit.{Becomes}
 
 -- the left side is a scheme of the one scope, the right side of the other, and both are of one category
 abbrev pub AreSidesInto : Signature → (from into : Names) → SchemeEquation → Type 0
 AreSidesInto sig from into e = (c : ℕ) × IsScheme sig from e.locals c e.left × IsScheme sig into e.locals c e.right
 
--- The sides go together, and each name of the one scope has a strict occurrence in a left side.
+-- The sides go together, and each name of the one scope has a strict occurrence in a left side. That scope is one of a rule or of a
+-- statement, which has no known variable.
 pub record AreToFitInto (sig : Signature) (from into : Names) (eqs : List SchemeEquation) : Type 0 where
+  pub knowns : from.knowns ≡ []
   pub sides : AllByRecursion (AreSidesInto sig from into) eqs
   pub strict : AllNumbered (λ m decl. AnyByRecursion (λ e. StrictIn m e.left) eqs) 0 from.metas
+
+-- the left side becomes the right side
+abbrev pub Becomes : List SchemeTree → List ℕ → SchemeEquation → Type 0
+Becomes ss ks e = applied ss ks (length e.locals) e.left ≡ e.right
 
 -- A substitution of the one scope by schemes of the other that makes each left side its right side.
 pub record IsFitInto (sig : Signature) (from into : Names) (eqs : List SchemeEquation) (by : Substitution) : Type 0 where
@@ -31,12 +35,3 @@ abbrev pub IsOnlyFitInto : Signature → (from into : Names) → List SchemeEqua
 IsOnlyFitInto sig from into eqs None = (by : Substitution) → IsFitInto sig from into eqs by → ⊥
 IsOnlyFitInto sig from into eqs (Some by) =
     IsFitInto sig from into eqs by × ((other : Substitution) → IsFitInto sig from into eqs other → other ≡ by)
-
--- nothing binds, no name has parameters, there is no known variable, and no side stands under locals
-pub record AreWithoutBindingInto (sig : Signature) (from into : Names) (eqs : List SchemeEquation) : Type 0 where
-  pub slots : NothingBinds sig
-  pub metas : HaveNoParameters from.metas
-  pub knowns : from.knowns ≡ []
-  pub into_metas : HaveNoParameters into.metas
-  pub into_knowns : into.knowns ≡ []
-  pub locals : AllByRecursion (λ e. e.locals ≡ []) eqs

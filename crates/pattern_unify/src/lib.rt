@@ -1,11 +1,23 @@
 //! Substitutions that make schemes equal.
 #![tactic(auto)]
 
-mod demand;
+mod arguments;
 mod equation;
 mod fitting;
-#[cfg(test)]
-mod tests;
+pub mod laws;
+mod left;
+mod moves;
+mod patterns;
+mod pruning;
+mod rows;
+mod running;
+mod state;
+mod steps;
+mod turns;
+mod unification;
+mod unified;
 
 pub use equation::Equation;
-pub use fitting::{fit, fit_into};
+pub use fitting::fit_into;
+pub use unification::unify;
+pub use unified::Unified;

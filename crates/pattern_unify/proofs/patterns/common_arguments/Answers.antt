@@ -1,0 +1,14 @@
+use Rattle.std.proofs.Common.{◌≡◌, ◌∙◌, ap, sym, refl, subst, map, length, drop, append-nil, ◌++◌, option_map, [], arith, get_or, Some}
+use Rattle.scheme_terms.specs.SchemeTree.{values}
+use Rattle.scheme_terms.specs.View.{scheme}
+use Rattle.pattern_unify.specs.Patterns.{common_arguments}
+use Rattle.pattern_unify.proofs.Building.{nothing_past}
+use Rattle.pattern_unify.proofs.Ended.{no_common}
+use Rattle.pattern_unify.proofs.patterns.common_arguments.Goals as goal
+
+pub returns-then-i-second : goal.returns-then-i-second
+returns-then-i-second c =
+    sym (append-nil c.loop-i.marks.items)
+    ∙ ap (λ ys. c.loop-i.marks.items ++ ys) (sym (no_common (values (map scheme (drop c.loop-i.i c.args.first.now))) (values (map scheme (drop c.loop-i.i c.args.second.now)))
+    (ap (λ xs. values (map scheme xs)) (nothing_past c.args.second.now c.loop-i.i c.if-i-second.true))))
+    ∙ c.loop-i.invariant
