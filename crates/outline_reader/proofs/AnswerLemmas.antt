@@ -1,6 +1,7 @@
 -- What reading the tokens of a text answers, in terms of the grammar.
-use Rattle.std.proofs.Common.{◌≡◌, ◌≢◌, inl, inr, ℕ, ◌+◌, Bool, true, false, cond, not, codes, List, [], ◌∷◌, ◌++◌, length, map, Option, Some, None, Ok, Err, refl, sym, ◌∙◌, ap, subst, append_assoc, arith, eq-eqb, nat_eq}
+use Rattle.std.proofs.Common.{◌≡◌, ◌≢◌, inl, inr, ℕ, ◌+◌, Bool, true, false, cond, if◌then◌else◌, not, codes, List, [], ◌∷◌, ◌++◌, length, map, Option, Some, None, Ok, Err, refl, sym, ◌∙◌, ap, subst, append_assoc, arith, eq-eqb, nat_eq}
 use Rattle.std.specs.Str.{chars}
+use Rattle.std.proofs.Math.Bool.{or-true}
 use Rattle.std.proofs.lemmas.List.{append-nil}
 use Rattle.std.proofs.lemmas.Option.{none-some}
 use Rattle.std.proofs.lemmas.Bool.{eqb-true}
@@ -17,12 +18,15 @@ use Rattle.outline_reader.specs.declared.machine.Seen.{Seen}
 use Rattle.outline_reader.specs.declared.sort.Sort.{Sort}
 use Rattle.outline_reader.specs.declared.sort.Sort.TheVariants as s
 use Rattle.outline_reader.specs.declared.symbols.Role.{Role}
-use Rattle.outline_reader.specs.Sorts.{sort_of, word_sort}
+use Rattle.sy_base.specs.Tokens.{is_numeral}
+use Rattle.unicode_ident.specs.Ident.{is_xid_start}
+use Rattle.outline_reader.specs.Sorts.{sort_of, word_sort, look_up, reserved}
 use Rattle.outline_reader.specs.Derives.{Mark, level, seen_after, seen, Reaches, here, Derives, whole}
 use Rattle.outline_reader.specs.Limits.{nothing_counted, counted}
 use Rattle.outline_reader.specs.Machine.{take, missing}
 use Rattle.outline_reader.specs.Reading.{Answer, read, roles, with_roles, within_limits, at_end, fault_after, first_fault}
 use Rattle.outline_reader.specs.Outline.{IsFile, Begins, LeavesOff, counts_after, passed_in, NotBefore, last_line, IsOutlined, IsUnexpected, IsMissingEnd, EndsElsewhere, IsTooMany, IsAnswer}
+use Rattle.outline_reader.proofs.Truth.{true_not_false}
 use Rattle.outline_reader.proofs.TakeLemmas.{marked, take_reaches, missing_derives}
 use Rattle.outline_reader.proofs.OrderLemmas.{Ordered, FirstStep, Told, told, whole_ordered, to_false}
 use Rattle.outline_reader.proofs.CompletionLemmas.{Completes, completes}
@@ -242,8 +246,12 @@ sample_token s.Mark line = written kind.Punct (codes ";") line
 sample_token s.Bar line = written kind.Bar (codes "---") line
 sample_token s.Other line = written kind.Quoted (codes "a") line
 
-sample_is : (sort : Sort) (line : ℕ) → sort_of (sample_token sort line) ≡ sort
-unfolding sort_of word_sort chars
+no_numeral : is_numeral (codes "_") ≡ false
+unfolding is_numeral chars
+no_numeral = ap not (or-true (is_xid_start 95))
+
+pub sample_is : (sort : Sort) (line : ℕ) → sort_of (sample_token sort line) ≡ sort
+unfolding sort_of word_sort
 sample_is s.Terminals line = refl
 sample_is s.Syntax line = refl
 sample_is s.Judgment line = refl
@@ -272,7 +280,7 @@ sample_is s.Substitution line = refl
 sample_is s.Unproved line = refl
 sample_is s.Solve line = refl
 sample_is s.Import line = refl
-sample_is s.Name line = refl
+sample_is s.Name line = ap (λ numeral. look_up reserved (codes "_") (if numeral then s.Other else s.Name)) no_numeral
 sample_is s.Colon line = refl
 sample_is s.Define line = refl
 sample_is s.Or line = refl
@@ -421,10 +429,6 @@ stops_stuck front token marks left run stops = by_take (take left (seen_as (last
 
 -- ---- what is answered is what the grammar says
 
-true_or_false : (b : Bool) → b ≡ true → b ≡ false → ⊥
-true_or_false true e f = cc
-true_or_false false e f = cc
-
 fault_here : (passed : Option (ℕ × Limit)) (line : ℕ) (fault : OutlineFault) → NotBefore passed line → fault_after passed line fault ≡ fault
 fault_here None line fault h = refl
 fault_here (Some passed) line fault h = ap (λ b. cond b fault (TooMany passed.0 passed.1)) (eq-eqb passed.0 line h)
@@ -548,7 +552,7 @@ unexpected_is front rest token marks left run stuck (Some passed) is = by_line (
       front,
       token ∷ rest,
       refl,
-      ((run_begins front marks left run, stuck_stops front token marks left run stuck), λ e. true_or_false (nat_eq passed.0 token.line) (eq-eqb passed.0 token.line (sym e)) other),
+      ((run_begins front marks left run, stuck_stops front token marks left run stuck), λ e. true_not_false (nat_eq passed.0 token.line) (eq-eqb passed.0 token.line (sym e)) other),
       (marks, left, runs_leave run, is),
     )
 
@@ -570,7 +574,7 @@ short_is tokens marks left line part run lacks last (Some passed) is = by_line (
       tokens,
       [],
       sym (append-nil tokens),
-      inr (no_end tokens marks left part run lacks, λ e. let at : line ≡ passed.0 = some_one line passed.0 (sym last ∙ e) in true_or_false (nat_eq passed.0 line) (eq-eqb passed.0 line (sym at)) other),
+      inr (no_end tokens marks left part run lacks, λ e. let at : line ≡ passed.0 = some_one line passed.0 (sym last ∙ e) in true_not_false (nat_eq passed.0 line) (eq-eqb passed.0 line (sym at)) other),
       (marks, left, runs_leave run, is),
     )
 

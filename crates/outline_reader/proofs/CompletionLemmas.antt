@@ -1,5 +1,5 @@
 -- Whatever is to come can come.
-use Rattle.std.proofs.Common.{◌≡◌, Bool, true, false, cond, ◌&&◌, List, [], ◌∷◌, ◌++◌, map, refl, sym, ◌∙◌, ap, subst, append_assoc}
+use Rattle.std.proofs.Common.{◌≡◌, Bool, true, false, cond, List, [], ◌∷◌, ◌++◌, map, refl, sym, ◌∙◌, ap, subst, append_assoc}
 use denote.Enum.Bare.{true_same}
 use Rattle.outline_reader.specs.contracts.sort.Sort.{the_type}
 use Rattle.outline_reader.specs.declared.fault.Part.{Part}
@@ -25,7 +25,8 @@ use Rattle.outline_reader.specs.Grammar.{Alternative, times_of, alternatives, it
 use Rattle.outline_reader.specs.Derives.{has, stands, fits, await, again, opened, Mark, IsOneOf, first, later, Derives, here, token, alternative, left_out}
 use Rattle.outline_reader.specs.Machine.{is_once}
 use Rattle.outline_reader.proofs.TakeLemmas.{marked, not_once}
-use Rattle.outline_reader.proofs.OrderLemmas.{all_of, and_left, and_right, symbol_of, await_symbol}
+use Rattle.outline_reader.proofs.OrderLemmas.{all_of, symbol_of, await_symbol}
+use Rattle.outline_reader.proofs.Truth.{and_left, and_right, and_both}
 
 -- some tokens are written for the symbols
 abbrev pub Completes : List Awaited → Type 0
@@ -59,10 +60,6 @@ sample_has class.ButParenthesis = refl
 sample_has class.ButOr = refl
 sample_has class.ButOrDefine = refl
 sample_has class.ButOrName = refl
-
-and_both : (a b : Bool) → a ≡ true → b ≡ true → a && b ≡ true
-and_both true b e f = f
-and_both false b e f = e
 
 sample_fits : (place : Place) (class : Class) → fits place class (sample place class) ≡ true
 sample_fits place class = and_both _ _ (sample_stands place) (sample_has class)

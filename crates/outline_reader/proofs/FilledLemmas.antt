@@ -16,41 +16,8 @@ use Rattle.outline_reader.specs.Machine.{is_once}
 use Rattle.outline_reader.specs.Portions.{begins, names_category, portion_length}
 use Rattle.outline_reader.specs.Filled.{Need, a_name, a_kind_word, a_form, an_output, an_argument, a_conclusion, a_justification, a_definition, a_new_definition, is_new_definition, meets, met_in, needs, within_portion, AreFilled}
 use Rattle.outline_reader.specs.Laws.{PortionsAreFilled}
+use Rattle.outline_reader.proofs.Truth.{and_left, and_right, and_both, or_left, or_right, either, not_true, where_true}
 use Rattle.outline_reader.proofs.WritingLemmas.{then_come, Writes, nothing, one_token, begun, none, writes}
-
--- ---- truth
-
-pub and_left : (a b : Bool) → (a && b) ≡ true → a ≡ true
-and_left true b h = refl
-and_left false b h = h
-
-pub and_right : (a b : Bool) → (a && b) ≡ true → b ≡ true
-and_right true b h = h
-and_right false b h = absurd (let no : false ≡ true = h in cc)
-
-pub and_both : (a b : Bool) → a ≡ true → b ≡ true → (a && b) ≡ true
-and_both true b first second = second
-and_both false b first second = first
-
-pub or_left : (a b : Bool) → a ≡ true → (a || b) ≡ true
-or_left true b h = refl
-or_left false b h = absurd (let no : false ≡ true = h in cc)
-
-pub or_right : (a b : Bool) → b ≡ true → (a || b) ≡ true
-or_right true b h = refl
-or_right false b h = h
-
-pub either : (a b : Bool) → (a || b) ≡ true → (a ≡ true) ⊎ (b ≡ true)
-either true b h = inl refl
-either false b h = inr h
-
-pub not_true : (a : Bool) → not a ≡ true → a ≡ false
-not_true true h = absurd (let no : false ≡ true = h in cc)
-not_true false h = refl
-
-pub where_true : (a b : Bool) → (if a then b else true) ≡ true → a ≡ true → b ≡ true
-where_true true b h is = h
-where_true false b h is = absurd (let no : false ≡ true = is in cc)
 
 -- ---- lists
 
@@ -77,21 +44,21 @@ every_is_all test other (need ∷ all) turns h = (turns need (and_left (test nee
 
 -- ---- symbols that do not begin with the `::=` of a later category
 
-calm : Symbol → Bool
+unfoldable pub calm : Symbol → Bool
 calm (One place class role) = not (is_new_definition role)
 calm (Choice p.AfterLineName) = false
 calm (Choice _) = true
 
-tail_calm : List Symbol → Bool
+unfoldable pub tail_calm : List Symbol → Bool
 tail_calm [] = true
 tail_calm (symbol ∷ rest) = every calm rest
 
-tail_of_calm : (rest : List Symbol) → every calm rest ≡ true → tail_calm rest ≡ true
+pub tail_of_calm : (rest : List Symbol) → every calm rest ≡ true → tail_calm rest ≡ true
 unfolding every tail_calm
 tail_of_calm [] h = refl
 tail_of_calm (symbol ∷ rest) h = and_right (calm symbol) (every calm rest) h
 
-tail_append : (front rest : List Symbol) → tail_calm front ≡ true → every calm rest ≡ true → tail_calm (front ++ rest) ≡ true
+pub tail_append : (front rest : List Symbol) → tail_calm front ≡ true → every calm rest ≡ true → tail_calm (front ++ rest) ≡ true
 unfolding tail_calm
 tail_append [] rest first second = tail_of_calm rest second
 tail_append (symbol ∷ front) rest first second = every_append calm front rest first second
@@ -314,7 +281,7 @@ calm_begun phrase chosen is_one h =
     (where_true (calm (Choice phrase)) (every (λ (a : Alternative). not (is_new_definition a.2)) (alternatives phrase)) (calm_table phrase) h))
 
 -- where every symbol is calm, no later category is defined first
-calm_first : {all : List Symbol} {roles : List Role} → Writes all roles → every calm all ≡ true → names_category roles ≡ false
+pub calm_first : {all : List Symbol} {roles : List Role} → Writes all roles → every calm all ≡ true → names_category roles ≡ false
 unfolding every calm
 calm_first nothing h = refl
 calm_first (one_token place class role rest roles w) h =
@@ -429,7 +396,7 @@ defined (begun phrase rest chosen roles is_one w) still named =
     comes_more a_new_definition chosen.2 roles (new_begins_none chosen.2 is_new) (calm_first w (every_append calm next rest stays still)) (inl is_new)
 defined (none phrase rest roles optional w) still named = defined w (tail_of_calm rest still) named
 
-tails_begun : (phrase : Phrase) (chosen : Alternative) → IsOneOf chosen (alternatives phrase) → tail_calm (then_come phrase chosen.3) ≡ true
+pub tails_begun : (phrase : Phrase) (chosen : Alternative) → IsOneOf chosen (alternatives phrase) → tail_calm (then_come phrase chosen.3) ≡ true
 unfolding tails_ok
 tails_begun phrase chosen is_one = every_one (λ a. tail_calm (then_come phrase a.3)) is_one (tails_table phrase)
 

@@ -15,7 +15,8 @@ use Rattle.outline_reader.specs.Filled.{Need, a_name, a_second_name, a_kind_word
 use Rattle.outline_reader.specs.Found.{begun_by, AreFound}
 use Rattle.outline_reader.specs.Laws.{FieldsAreFound}
 use Rattle.outline_reader.proofs.WritingLemmas.{marked_roles, writes}
-use Rattle.outline_reader.proofs.FilledLemmas.{either, or_right, within_more, portions_filled}
+use Rattle.outline_reader.proofs.FilledLemmas.{within_more, portions_filled}
+use Rattle.outline_reader.proofs.Truth.{either, or_right, true_not_false}
 use Rattle.outline_reader.proofs.KindLemmas.{KindsBehindAnd, names_kind, kinds_behind_and}
 
 -- ---- roles and their tokens
@@ -51,9 +52,6 @@ paired_take (suc n) (x ∷ xs) (y ∷ ys) h = paired_take n xs ys h
 
 -- ---- fields
 
-true_not_false : {A : Type 0} (b : Bool) → b ≡ true → b ≡ false → A
-true_not_false b is is_not = absurd (let never : true ≡ false = sym is ∙ is_not in cc)
-
 -- a choice whose second side does not count
 same_choice : {A : Type 0} (b : Bool) (x y z : A) → (b ≡ false → y ≡ z) → cond b x y ≡ cond b x z
 same_choice true x y z same = refl
@@ -80,7 +78,7 @@ subject_found (role ∷ roles) (token ∷ tokens) paired met one other =
       | inr later ↦ subject_found roles tokens paired later one other
     ])
 
-is_conclusion_role : (one : Role) → meets a_conclusion one ≡ true → same_role one role.HeadConclusion ≡ true
+pub is_conclusion_role : (one : Role) → meets a_conclusion one ≡ true → same_role one role.HeadConclusion ≡ true
 is_conclusion_role role.HeadConclusion h = refl
 is_conclusion_role _ h = absurd (let no : false ≡ true = h in cc)
 
@@ -109,26 +107,26 @@ conclusion_found (now ∷ roles) (token ∷ tokens) paired met one other =
 -- ---- portions
 
 -- each token is followed by what it needs
-FilledList : List Role → Type 0
+unfoldable pub FilledList : List Role → Type 0
 FilledList [] = Unit {0}
 FilledList (one ∷ rest) = AllByRecursion (λ need. IsTrue (met_in need rest)) (needs one) × FilledList rest
 
-or_first : (a b : Bool) → (a || b) ≡ false → a ≡ false
+pub or_first : (a b : Bool) → (a || b) ≡ false → a ≡ false
 or_first true b h = h
 or_first false b h = refl
 
-or_second : (a b : Bool) → (a || b) ≡ false → b ≡ false
+pub or_second : (a b : Bool) → (a || b) ≡ false → b ≡ false
 or_second true b h = absurd (let no : true ≡ false = h in cc)
 or_second false b h = h
 
-begun_later : (a b : Bool) → IsTrue (a || b) → a ≡ false → IsTrue b
+pub begun_later : (a b : Bool) → IsTrue (a || b) → a ≡ false → IsTrue b
 begun_later true b h none = absurd (let no : true ≡ false = none in cc)
 begun_later false b h none = h
 
-within_none : (one : Role) (roles : List Role) → (begins one || names_category roles) ≡ true → within_portion (one ∷ roles) ≡ []
+pub within_none : (one : Role) (roles : List Role) → (begins one || names_category roles) ≡ true → within_portion (one ∷ roles) ≡ []
 within_none one roles ends = λ i. take (cond (ends i) 0 (portion_length roles + 1)) (one ∷ roles)
 
-filled_within : (roles : List Role) → AreFilled roles → FilledList (within_portion roles)
+pub filled_within : (roles : List Role) → AreFilled roles → FilledList (within_portion roles)
 unfolding FilledList
 filled_within [] h = tt
 filled_within (one ∷ roles) h = by_end (begins one || names_category roles) refl (filled_within roles h.2)
@@ -144,7 +142,7 @@ met_more one roles [] h = tt
 met_more one roles (need ∷ all) h = (or_right (meets need one) (met_in need roles) h.0, met_more one roles all h.1)
 
 -- what the word needs that tells a justification
-call_needs : (roles : List Role) → FilledList roles → AllByRecursion (λ need. IsTrue (met_in need roles)) (needs (call roles))
+pub call_needs : (roles : List Role) → FilledList roles → AllByRecursion (λ need. IsTrue (met_in need roles)) (needs (call roles))
 unfolding FilledList
 call_needs [] h = tt
 call_needs (one ∷ roles) h = by_call (is_call one) (call_needs roles h.1)

@@ -10,7 +10,8 @@ use Rattle.outline_reader.specs.Grammar.{Alternative, alternatives}
 use Rattle.outline_reader.specs.Derives.{IsOneOf, whole}
 use Rattle.outline_reader.specs.Filled.{is_kind_word}
 use Rattle.outline_reader.proofs.WritingLemmas.{then_come, Writes, nothing, one_token, begun, none, symbols}
-use Rattle.outline_reader.proofs.FilledLemmas.{and_left, and_right, not_true, where_true, every, every_one, every_append}
+use Rattle.outline_reader.proofs.FilledLemmas.{every, every_one, every_append}
+use Rattle.outline_reader.proofs.Truth.{and_left, and_right, not_true, where_true, true_not_false}
 
 -- such a word comes first
 unfoldable pub names_kind : List Role → Bool
@@ -101,13 +102,10 @@ plain_first (one_token place class role rest roles w) h = not_true (is_kind_word
 plain_first (begun phrase rest chosen roles is_one w) h = plain_begun phrase chosen is_one (and_left (plain (Choice phrase)) (every plain rest) h)
 plain_first (none phrase rest roles optional w) h = plain_first w (and_right (plain (Choice phrase)) (every plain rest) h)
 
-never : {A : Type 0} (b : Bool) → b ≡ false → b ≡ true → A
-never b is_not is = absurd (let no : true ≡ false = sym is ∙ is_not in cc)
-
 kinds : {all : List Symbol} {roles : List Role} → Writes all roles → tail_plain all ≡ true → KindsBehindAnd roles
 unfolding KindsBehindAnd tail_plain
 kinds nothing h = tt
-kinds (one_token place class role rest roles w) h = ((λ named. never (names_kind roles) (plain_first w h) named), kinds w (tail_of_plain rest h))
+kinds (one_token place class role rest roles w) h = ((λ named. true_not_false (names_kind roles) named (plain_first w h)), kinds w (tail_of_plain rest h))
 kinds (begun phrase rest chosen roles is_one w) h =
     let next = then_come phrase chosen.3 in
     ((λ named. by_and w named (is_and chosen.2) refl), kinds w (tail_append next rest (tails_begun phrase chosen is_one) h))
@@ -115,8 +113,8 @@ kinds (begun phrase rest chosen roles is_one w) h =
     by_and : Writes (then_come phrase chosen.3 ++ rest) roles → names_kind roles ≡ true → (b : Bool) → is_and chosen.2 ≡ b → chosen.2 ≡ role.AndWord
     by_and w named true is = and_is chosen.2 is
     by_and w named false is_not =
-        never (names_kind roles)
-        (plain_first w (every_append plain (then_come phrase chosen.3) rest (ap (λ b. b || every plain (then_come phrase chosen.3)) (sym is_not) ∙ others_begun phrase chosen is_one) h)) named
+        true_not_false (names_kind roles) named
+        (plain_first w (every_append plain (then_come phrase chosen.3) rest (ap (λ b. b || every plain (then_come phrase chosen.3)) (sym is_not) ∙ others_begun phrase chosen is_one) h))
 kinds (none phrase rest roles optional w) h = kinds w (tail_of_plain rest h)
 
 pub kinds_behind_and : {roles : List Role} → Writes (symbols whole) roles → KindsBehindAnd roles

@@ -1,3 +1,5 @@
+pub mod Truth
+pub mod SortLemmas
 pub mod StackLemmas
 pub mod ReadingLemmas
 pub mod TakeLemmas
@@ -8,7 +10,18 @@ pub mod OutlineLemmas
 pub mod FieldLemmas
 pub mod PortionLemmas
 pub mod UniqueLemmas
+pub mod FaultLemmas
 pub mod WritingLemmas
 pub mod FilledLemmas
 pub mod KindLemmas
 pub mod FoundLemmas
+pub mod SuitLemmas
+pub mod WordLemmas
+pub mod BreakLemmas
+pub mod WithinLemmas
+pub mod EndLemmas
+pub mod SaidLemmas
+pub mod SaidPortions
+pub mod FollowLemmas
+pub mod StretchLemmas
+pub mod StretchPortions

@@ -25,6 +25,7 @@ use Rattle.outline_reader.specs.declared.symbols.Item.TheVariants as item
 use Rattle.outline_reader.specs.Grammar.{Alternative, times_of, alternatives, items}
 use Rattle.outline_reader.specs.Derives.{same_sort, has, stands, fits, await, again, opened, level, Mark, IsOneOf, first, later, Reaches, here, token, alternative, left_out, whole}
 use Rattle.outline_reader.specs.Machine.{chosen, is_once, take_choice, take, missing}
+use Rattle.outline_reader.proofs.Truth.{and_left, and_right, either}
 
 -- ---- what a token may begin
 
@@ -36,21 +37,9 @@ abbrev pub all_of : {A : Type 0} → (A → Bool) → List A → Bool
 all_of test [] = true
 all_of test (x ∷ xs) = test x && all_of test xs
 
-pub and_left : (a b : Bool) → a && b ≡ true → a ≡ true
-and_left true b e = refl
-and_left false b e = e
-
-pub and_right : (a b : Bool) → a && b ≡ true → b ≡ true
-and_right true b e = e
-and_right false b e = cc
-
-or_cases : (a b : Bool) → a || b ≡ true → (a ≡ true) ⊎ (b ≡ true)
-or_cases true b e = inl refl
-or_cases false b e = inr e
-
-true_not_false : {A : Type 0} (b : Bool) → b ≡ true → not b ≡ true → A
-true_not_false true e f = cc
-true_not_false false e f = cc
+not_its_negation : {A : Type 0} (b : Bool) → b ≡ true → not b ≡ true → A
+not_its_negation true e f = cc
+not_its_negation false e f = cc
 
 abbrev pub starts : List Alternative → List Start
 starts [] = []
@@ -86,19 +75,19 @@ abbrev pub fits_start : Start → Seen → Bool
 fits_start x one = fits x.0 x.1 one
 
 places_not_both : (x y : Place) (b : Bool) → places_apart x y ≡ true → stands x b ≡ true → stands y b ≡ true → ⊥
-places_not_both place.First place.Next b e f g = true_not_false b f g
-places_not_both place.Next place.First b e f g = true_not_false b g f
+places_not_both place.First place.Next b e f g = not_its_negation b f g
+places_not_both place.Next place.First b e f g = not_its_negation b g f
 places_not_both place.First place.First b e f g = cc
 places_not_both place.First place.Anywhere b e f g = cc
 places_not_both place.Next place.Next b e f g = cc
 places_not_both place.Next place.Anywhere b e f g = cc
 places_not_both place.Anywhere other b e f g = cc
 
-is_sort : (sort one : Sort) → same_sort sort one ≡ true → sort ≡ one
+pub is_sort : (sort one : Sort) → same_sort sort one ≡ true → sort ≡ one
 is_sort sort one e = same_true the_type tt sort one e
 
 sort_not_in : (one sort : Sort) (other : Class) → not (has other one) ≡ true → same_sort sort one ≡ true → has other sort ≡ true → ⊥
-sort_not_in one sort other e f g = true_not_false (has other one) (ap (has other) (sym (is_sort sort one f)) ∙ g) e
+sort_not_in one sort other e f g = not_its_negation (has other one) (ap (has other) (sym (is_sort sort one f)) ∙ g) e
 
 classes_not_both : (c d : Class) (sort : Sort) → classes_apart c d ≡ true → has c sort ≡ true → has d sort ≡ true → ⊥
 classes_not_both (class.Is one) d sort e f g = sort_not_in one sort d e f g
@@ -113,7 +102,7 @@ classes_not_both class.ButOrName (class.Is one) sort e f g = sort_not_in one sor
 classes_not_both _ _ sort e f g = cc
 
 not_both : (x y : Start) (one : Seen) → apart x y ≡ true → fits_start x one ≡ true → fits_start y one ≡ true → ⊥
-not_both x y one e f g = by_cases (or_cases (places_apart x.0 y.0) (classes_apart x.1 y.1) e)
+not_both x y one e f g = by_cases (either (places_apart x.0 y.0) (classes_apart x.1 y.1) e)
   where
     by_cases : (places_apart x.0 y.0 ≡ true) ⊎ (classes_apart x.1 y.1 ≡ true) → ⊥
     by_cases (inl h) = places_not_both x.0 y.0 one.begins h (and_left _ _ f) (and_left _ _ g)
@@ -177,7 +166,7 @@ Subset xs ys = (x : Start) → In x xs → In x ys
 
 in_from : (x : Start) (ys : List Start) → is_in x ys ≡ true → In x ys
 in_from x [] e = cc
-in_from x (y ∷ ys) e = by_cases (λ e. in_from x ys e) (or_cases (same_place x.0 y.0 && same_class x.1 y.1) (is_in x ys) e)
+in_from x (y ∷ ys) e = by_cases (λ e. in_from x ys e) (either (same_place x.0 y.0 && same_class x.1 y.1) (is_in x ys) e)
   where
     by_cases : (is_in x ys ≡ true → In x ys) → (same_place x.0 y.0 && same_class x.1 y.1 ≡ true) ⊎ (is_in x ys ≡ true) → (x ≡ y) ⊎ In x ys
     by_cases below (inl h) =

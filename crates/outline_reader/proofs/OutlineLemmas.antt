@@ -9,13 +9,13 @@ use Rattle.outline_reader.specs.Portions.{portions}
 use Rattle.outline_reader.specs.Outline.{IsAnswer, IsOutline, IsFault}
 use Rattle.outline_reader.proofs.AnswerLemmas.{answer_is_read, read_is_answer}
 
-ok_one : (x y : List Role) → (let a : Answer = Ok x in a) ≡ Ok y → x ≡ y
+pub ok_one : (x y : List Role) → (let a : Answer = Ok x in a) ≡ Ok y → x ≡ y
 ok_one x y e = cc
 
-ok_not_err : {A : Type 0} (x : List Role) (fault : OutlineFault) → (let a : Answer = Ok x in a) ≡ Err fault → A
+pub ok_not_err : {A : Type 0} (x : List Role) (fault : OutlineFault) → (let a : Answer = Ok x in a) ≡ Err fault → A
 ok_not_err x fault e = cc
 
-err_one : (x y : OutlineFault) → (let a : Answer = Err x in a) ≡ Err y → x ≡ y
+pub err_one : (x y : OutlineFault) → (let a : Answer = Err x in a) ≡ Err y → x ≡ y
 err_one x y e = cc
 
 -- the one outline

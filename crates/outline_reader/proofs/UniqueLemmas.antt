@@ -75,15 +75,13 @@ read_placeless place awaited counts before (token ∷ tokens) =
 roles_placeless : (tokens : List Token) → roles (all_placeless tokens) ≡ roles tokens
 roles_placeless tokens = read_placeless 0 whole nothing_counted None tokens
 
-ok_one : (x y : List Role) → (let a : Answer = Ok x in a) ≡ Ok y → x ≡ y
-ok_one x y e = cc
+-- tokens with equal views are the same but for their places
+all_same : (tokens others : List Token) → map token_view tokens ≡ map token_view others → all_placeless tokens ≡ all_placeless others
+all_same tokens others same_views = all_placeless_of_view tokens ∙ ap (map of_view) same_views ∙ sym (all_placeless_of_view others)
 
--- tokens with equal views have the same roles
-same_roles : (tokens others : List Token) → map token_view tokens ≡ map token_view others → roles tokens ≡ roles others
-same_roles tokens others same_views =
-    let same : all_placeless tokens ≡ all_placeless others =
-    all_placeless_of_view tokens ∙ ap (map of_view) same_views ∙ sym (all_placeless_of_view others) in
-    sym (roles_placeless tokens) ∙ ap roles same ∙ roles_placeless others
+-- and have the same roles
+pub same_roles : (tokens others : List Token) → map token_view tokens ≡ map token_view others → roles tokens ≡ roles others
+same_roles tokens others same_views = sym (roles_placeless tokens) ∙ ap roles (all_same tokens others same_views) ∙ roles_placeless others
 
 pub tokens_outlined : TokensAreOutlined
 tokens_outlined source ones tokens has are =
@@ -95,16 +93,15 @@ tokens_outlined source ones tokens has are =
 pub portions_unique : PortionsAreUnique
 portions_unique source ones others first second =
     let same_views : map token_view first.tokens ≡ map token_view second.tokens = tokens_unique source _ _ first.are_tokens second.are_tokens in
-    let same : all_placeless first.tokens ≡ all_placeless second.tokens =
-    all_placeless_of_view first.tokens ∙ ap (map of_view) same_views ∙ sym (all_placeless_of_view second.tokens) in
+    let same = all_same first.tokens second.tokens same_views in
     let first_roles : roles first.tokens ≡ Ok first.outline.0 = answer_is_read first.tokens (Ok first.outline.0) first.outline.1 in
     let second_roles : roles second.tokens ≡ Ok second.outline.0 = answer_is_read second.tokens (Ok second.outline.0) second.outline.1 in
-    let same_roles : first.outline.0 ≡ second.outline.0 =
-    ok_one _ _ (sym first_roles ∙ sym (roles_placeless first.tokens) ∙ ap roles same ∙ roles_placeless second.tokens ∙ second_roles) in
+    let one_list : first.outline.0 ≡ second.outline.0 =
+    one_outline.ok_one _ _ (sym first_roles ∙ same_roles first.tokens second.tokens same_views ∙ second_roles) in
     first.plain
     ∙ ap (map plain_portion) first.outline.2
     ∙ sym (plain_portions first.outline.0 first.tokens)
-    ∙ (λ i. map plain_portion (portions (same_roles i) (same i)))
+    ∙ (λ i. map plain_portion (portions (one_list i) (same i)))
     ∙ plain_portions second.outline.0 second.tokens
     ∙ sym (ap (map plain_portion) second.outline.2)
     ∙ sym second.plain

@@ -59,7 +59,7 @@ symbols_append : (front back : List Awaited) → symbols (front ++ back) ≡ sym
 symbols_append [] back = refl
 symbols_append (next ∷ front) back = ap (λ (rest : List Symbol). next.symbol ∷ rest) (symbols_append front back)
 
-symbols_opened : (within : Part) (phrase : Phrase) (what : Rest) (rest : List Awaited) → symbols (opened within phrase what ++ rest) ≡ then_come phrase what ++ symbols rest
+pub symbols_opened : (within : Part) (phrase : Phrase) (what : Rest) (rest : List Awaited) → symbols (opened within phrase what ++ rest) ≡ then_come phrase what ++ symbols rest
 symbols_opened within phrase what rest =
     symbols_append (opened within phrase what) rest
     ∙ ap (λ (front : List Symbol). front ++ symbols rest)

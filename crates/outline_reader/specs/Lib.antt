@@ -9,6 +9,8 @@ pub mod Fields
 pub mod Views
 pub mod Portions
 pub mod Plain
+pub mod Words
+pub mod Stretches
 pub mod Filled
 pub mod Found
 pub mod Laws

@@ -1,14 +1,15 @@
 -- The portions of a file with plain tokens, wherever these lie: what the definitions of the crates above speak of. To be held against
 -- 'Outline' of docs/notation.md.
 use Rattle.std.specs.Prelude.{◌≡◌, ℕ, Bool, List, map, Option, option_map}
-use Rattle.sy_base.specs.Tokens.{PlainToken, AreTokens}
+use Rattle.sy_base.specs.Tokens.{PlainToken, AreTokens, TokenFault, HasFault}
 use Rattle.proof_lexer.specs.View.{token_view}
 use Rattle.proof_lexer.specs.declared.token.Token.{Token}
 use Rattle.outline_reader.specs.declared.fault.Part.{Part}
+use Rattle.outline_reader.specs.declared.fault.OutlineFault.{OutlineFault}
 use Rattle.outline_reader.specs.declared.parts.Outline.{Outline}
 use Rattle.outline_reader.specs.Views as lent
 use Rattle.outline_reader.specs.Views.{portion_view}
-use Rattle.outline_reader.specs.Outline.{IsOutline}
+use Rattle.outline_reader.specs.Outline.{IsOutline, IsFault}
 
 -- an argument: a name, or a form without the parentheses around it
 pub data PlainArgument : Type 0 where
@@ -117,3 +118,18 @@ pub record HasPortions (source : List ℕ) (portions : List PlainPortion) : Type
   pub pieces : List lent.Piece
   pub outline : IsOutline tokens pieces
   pub plain : portions ≡ map plain_portion pieces
+
+-- the source is tokens, and these have the fault
+pub record HasFaultyOutline (source : List ℕ) (fault : OutlineFault) : Type 0 where
+  pub tokens : List Token
+  pub are_tokens : AreTokens source (map token_view tokens)
+  pub is_fault : IsFault tokens fault
+
+-- the fault of a source that has no portions: that of its tokens, or that of their outline
+pub data SourceFault : Type 0 where
+  of_tokens : TokenFault → SourceFault
+  of_outline : OutlineFault → SourceFault
+
+abbrev pub HasSourceFault : List ℕ → SourceFault → Type 0
+HasSourceFault source (of_tokens fault) = HasFault source fault
+HasSourceFault source (of_outline fault) = HasFaultyOutline source fault

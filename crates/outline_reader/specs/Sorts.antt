@@ -1,7 +1,9 @@
 -- What a token is for the outline; to be held against the notation's list of reserved words and its signs.
-use Rattle.std.specs.Prelude.{ℕ, Bool, false, ◌||◌, ◌==◌, if◌then◌else◌, List, [], ◌∷◌, codes}
-use Rattle.std.specs.Str.{bytes_eq, chars}
-use Rattle.unicode_ident.specs.Ident.{is_xid_start}
+use Rattle.std.specs.Prelude.{◌≡◌, ℕ, Bool, if◌then◌else◌, List, [], ◌∷◌, codes, map}
+use Rattle.std.specs.List.{list_any}
+use Rattle.std.specs.Str.{bytes_eq}
+use Rattle.binding_terms.specs.Numbered.{AnyByRecursion}
+use Rattle.sy_base.specs.Tokens.{is_numeral}
 use Rattle.proof_lexer.specs.declared.token.Kind.{Kind}
 use Rattle.proof_lexer.specs.declared.token.Kind.TheVariants as kind
 use Rattle.proof_lexer.specs.declared.token.Token.{Token}
@@ -40,6 +42,16 @@ reserved =
     (codes "solve", s.Solve) ∷
     (codes "import", s.Import) ∷ []
 
+abbrev pub reserved_words : List (List ℕ)
+reserved_words = map (λ entry. entry.0) reserved
+
+-- the word, which stands in no quotes, is reserved
+unfoldable pub IsReserved : List ℕ → Type 0
+IsReserved word = AnyByRecursion (λ one. one ≡ word) reserved_words
+
+unfoldable pub is_reserved : List ℕ → Bool
+is_reserved word = list_any (λ one. bytes_eq one word) reserved_words
+
 -- the signs that the outline knows
 abbrev pub signs : List (List ℕ × Sort)
 signs =
@@ -56,16 +68,9 @@ abbrev pub look_up : List (List ℕ × Sort) → List ℕ → Sort → Sort
 look_up [] text other = other
 look_up (entry ∷ entries) text other = if bytes_eq entry.0 text then entry.1 else look_up entries text other
 
--- a word is a numeral, and no name, unless it begins with `_` or with a character that begins words
-abbrev pub first_begins_name : List ℕ → Bool
-first_begins_name [] = false
-first_begins_name (first ∷ rest) = (first == 95) || is_xid_start first
-
-abbrev pub begins_name : List ℕ → Bool
-begins_name text = first_begins_name (chars text)
-
+-- a reserved word, and every numeral, is no name
 unfoldable pub word_sort : List ℕ → Sort
-word_sort word = look_up reserved word (if begins_name word then s.Name else s.Other)
+word_sort word = look_up reserved word (if is_numeral word then s.Other else s.Name)
 
 abbrev pub sort_by : Kind → List ℕ → Sort
 sort_by kind.Word text = word_sort text

@@ -1,8 +1,10 @@
 // What a token is for the outline.
-ghost use Rattle.std.specs.Prelude.{◌≡◌, map};
+ghost use Rattle.std.specs.Prelude.{◌≡◌, ◌↔◌, IsTrue, map};
+ghost use Rattle.std.specs.List.{list_any};
+ghost use Rattle.std.specs.Str.{bytes_eq};
 ghost use Rattle.outline_reader.specs.Sorts as spec;
 
-use proof_lexer::{Kind, Token};
+use proof_lexer::{Kind, Token, is_numeral};
 
 /// What a token is for the outline.
 #[derive(Clone, Copy, PartialEq, Eq)]
@@ -109,14 +111,26 @@ fn look_up(mut table: &[(&[u8], Sort)], text: &[u8], otherwise: Sort) -> Sort
     otherwise
 }
 
-/// Whether a word that begins so is no numeral.
-fn begins_name(text: &str) -> bool
-    ensures { result ≡ spec.begins_name text.now }
+/// Whether a table gives a sort to the text.
+fn is_listed(mut table: &[(&[u8], Sort)], text: &[u8]) -> bool
+    ensures { result ≡ list_any (λ one. bytes_eq one text.now) (map (λ entry. entry.0.now) table.entry.now) }
 {
-    match text.chars().next() {
-        Some(first) => first == '_' || unicode_ident::is_xid_start(first),
-        None => false,
+    while let [entry, rest @ ..] = table {
+        if entry.0 == text {
+            return true;
+        }
+        table = rest;
     }
+    false
+}
+
+/// Whether a word that stands in no quotes is reserved.
+#[tactic(auto, unfolding(crate::specs::Sorts::is_reserved, crate::specs::Sorts::IsReserved))]
+pub fn is_reserved(word: &[u8]) -> bool
+    ensures value { result ≡ spec.is_reserved word.now }
+    ensures fact { IsTrue result ↔ spec.IsReserved word.now }
+{
+    is_listed(&RESERVED, word)
 }
 
 /// What a word is.
@@ -124,10 +138,10 @@ fn begins_name(text: &str) -> bool
 fn word_sort(word: &str) -> Sort
     ensures { result ≡ spec.word_sort word.now }
 {
-    if begins_name(word) {
-        return look_up(&RESERVED, word.as_bytes(), Sort::Name);
+    if is_numeral(word) {
+        return look_up(&RESERVED, word.as_bytes(), Sort::Other);
     }
-    look_up(&RESERVED, word.as_bytes(), Sort::Other)
+    look_up(&RESERVED, word.as_bytes(), Sort::Name)
 }
 
 /// What the token is for the outline.

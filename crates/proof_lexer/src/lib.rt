@@ -9,11 +9,7 @@ mod laws;
 mod lexer;
 mod line;
 mod run;
-#[cfg(test)]
-mod tests;
 mod token;
-#[cfg(test)]
-mod worked;
 
 pub use fault::LexFault;
 pub use laws::{tokens_are_unique, tokens_or_fault, tokens_stand_in_source};

@@ -6,8 +6,6 @@ mod host;
 mod memory;
 mod outside;
 mod steady;
-#[cfg(test)]
-mod tests;
 
 pub use binding_terms::{NoMemory, Text};
 pub use fault::{Code, Fault, Refusal, Span};
