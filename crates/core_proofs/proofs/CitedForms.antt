@@ -9,13 +9,14 @@ use Rattle.rule_schemes.specs.View.{judgment_scheme}
 use Rattle.rule_schemes.specs.declared.rule.JScheme.{JScheme}
 use Rattle.core_proofs.specs.declared.step.StepId.{StepId}
 use Rattle.std.specs.List.{AllByRecursion}
-use Rattle.pattern_unify.proofs.PlainSchemes.{all_at}
+use Rattle.binding_terms.proofs.Lists.{all_at}
 use Rattle.rule_schemes.specs.Rules.{JudgmentScheme, Rule, Theory}
 use Rattle.core_proofs.specs.FormEquations.{put_first, cited_forms}
 use Rattle.core_proofs.specs.RuleStep.{form_in, IsRaisedTo, AreCited, IsRuleInstance}
 use Rattle.core_proofs.specs.Plain.{IsPlainRule}
 use Rattle.core_proofs.specs.Proof.{IsStepForm}
 use Rattle.core_proofs.specs.Provable.{IsRightByRule}
+use Rattle.binding_terms.proofs.Lists.{all_at}
 
 both_some : (o : Option JudgmentScheme) (os : Option (List JudgmentScheme)) (cited : List JudgmentScheme) → put_first o os ≡ Some cited →
     (j : JudgmentScheme) × ((js : List JudgmentScheme) × (o ≡ Some j) × (os ≡ Some js) × (j ∷ js ≡ cited))

@@ -13,8 +13,7 @@ use Rattle.scheme_terms.specs.declared.scheme.Scheme.{Scheme, the_lemmas}
 use Rattle.scheme_terms.specs.declared.scheme.Scheme.TheVariants.{Meta}
 use Rattle.scheme_terms.specs.declared.scheme.MetaId.{MetaId}
 use Rattle.pattern_unify.specs.Plain.{HaveNoParameters}
-use Rattle.pattern_unify.proofs.PlainSchemes.{all_at}
-use Rattle.binding_terms.proofs.Lists.{match_at, match_from}
+use Rattle.binding_terms.proofs.Lists.{all_at, match_at, match_from}
 
 -- no slot is left exactly where no argument is
 pub parts_end : (sig : Signature) (names : Names) (bs : List ℕ) (parts : List SArg) (next : ℕ) → next ≤ length parts →

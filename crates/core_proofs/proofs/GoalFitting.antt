@@ -1,23 +1,21 @@
 -- A form has the goal exactly where a substitution fits the equations of the goal.
 use Rattle.std.proofs.Common.{drop, append_assoc, add-one, ◌≡◌, ◌↔◌, ◌⊎◌, ℕ, zero, suc, ◌+◌, ◌<◌, IsTrue, List, [], ◌∷◌, ◌++◌, length, map, Option, Some, None, is_some, slice_get, MatchOption, unwrap_or, inl, inr, refl, ap, ◌∙◌, sym, subst, arith}
 use Rattle.std.proofs.lemmas.Bool.{cases_lt}
+use Rattle.std.proofs.lemmas.Bool.Decides.{nat_tests}
 use Rattle.std.proofs.lemmas.Option.{slice_get_within, get_or_from_slice_get}
 use Rattle.std.proofs.lemmas.List.{drop_more, map-append}
 use Rattle.std.specs.List.{AllByRecursion}
 use Rattle.binding_terms.specs.Numbered.{AnyByRecursion, AllNumbered}
-use Rattle.scheme_terms.specs.SchemeTree.{SchemeTree, meta, local, no_values, values, StrictIn}
+use Rattle.scheme_terms.specs.SchemeTree.{SchemeTree, meta, local, no_values, values, filled, StrictIn}
 use Rattle.scheme_terms.specs.Forms.{Names, Substitution}
 use Rattle.scheme_terms.specs.SchemeScope.{IsScheme, AreValues}
-use Rattle.scheme_terms.specs.Substituting.{applied, parameters}
+use Rattle.scheme_terms.specs.Substituting.{applied, argument_or_local, parameters, scheme_for}
 use Rattle.scheme_terms.specs.declared.scheme.MetaDecl.{MetaDecl}
 use Rattle.pattern_unify.specs.Equations.{SchemeEquation, equation}
 use Rattle.pattern_unify.specs.Plain.{HaveNoParameters}
-use Rattle.pattern_unify.specs.Fit.{Becomes}
-use Rattle.pattern_unify.specs.FitInto.{AreSidesInto, AreToFitInto, IsFitInto, IsOnlyFitInto, AreWithoutBindingInto}
-use Rattle.pattern_unify.proofs.PlainSchemes.{all_at}
-use Rattle.pattern_unify.proofs.Places.{numbered, numbered_at, within as place_within}
+use Rattle.pattern_unify.specs.FitInto.{AreSidesInto, AreToFitInto, Becomes, IsFitInto, IsOnlyFitInto}
 use Rattle.pattern_unify.specs.declared.equation.Equation.{Equation}
-use Rattle.pattern_unify.proofs.Solving.{applied_meta}
+use Rattle.scheme_terms.proofs.SchemeSubstitutions.{filled_local}
 use Rattle.rule_schemes.specs.Rules.{JudgmentScheme, Theory, IsJudgmentScheme}
 use Rattle.rule_schemes.specs.Plain.{IsPlainSystem}
 use Rattle.rule_schemes.specs.Statement.{Theorem, IsOfInputs, IsOfOutputs, IsStatementForm, StrictInStatement}
@@ -28,11 +26,11 @@ use Rattle.core_proofs.specs.Proof.{IsProofScope, HasGoal, applied_judgment, its
 use Rattle.core_proofs.specs.Provable.{IsProvable}
 use Rattle.core_proofs.proofs.ClosedForms.{no_context, closed_form}
 use Rattle.core_proofs.proofs.RuleSteps.{form_is}
-use Rattle.core_proofs.proofs.RuleFitting.{bare_forms, all_forms, match_both, each_both, EachOf, GoTogether, all_sides, SomeOf, some_both, all_strict, firsts}
+use Rattle.core_proofs.proofs.RuleFitting.{bare_forms, all_forms, match_both, each_both, EachOf, all_sides, SomeOf, some_both, all_strict}
 use Rattle.core_proofs.proofs.Moving.{is_front}
 use Rattle.core_proofs.proofs.PlainForms.{plain_forms}
 use Rattle.core_proofs.proofs.Keeping.{plain_scope}
-use Rattle.binding_terms.proofs.Lists.{append_within, match_from, match_some}
+use Rattle.binding_terms.proofs.Lists.{all_at, all_numbered, append_within, match_from, match_some, numbered_at, some_within}
 
 -- what holds of the equation of each name holds of all of them
 from_stays : (P : SchemeEquation → Type 0) (n : ℕ) (decls : List MetaDecl) → AllNumbered (λ m decl. P (stays m)) n decls → AllByRecursion P (stays_from n decls)
@@ -50,7 +48,7 @@ pub stays_more : (decls : List MetaDecl) (i : ℕ) (all new : List Equation) (on
     i < length decls → equation one ≡ stays i → new ≡ all ++ one ∷ [] → map equation all ++ stays_from i (drop i decls) ≡ whole →
     map equation new ++ stays_from (i + 1) (drop (i + 1) decls) ≡ whole
 stays_more decls i all new one whole h is more e =
-    let here = place_within decls i h in
+    let here = some_within decls i h in
     let left : drop i decls ≡ here.0 ∷ drop (i + 1) decls = drop_more decls i here.0 h ∙ ap (λ d. d ∷ drop (i + 1) decls) (get_or_from_slice_get decls i here.0 here.0 here.1) in
     ap (λ xs. map equation xs ++ stays_from (i + 1) (drop (i + 1) decls)) more
     ∙ ap (λ xs. xs ++ stays_from (i + 1) (drop (i + 1) decls)) (map-append equation all (one ∷ []))
@@ -58,6 +56,13 @@ stays_more decls i all new one whole h is more e =
     ∙ ap (λ t. map equation all ++ t ∷ stays_from (i + 1) (drop (i + 1) decls)) is
     ∙ ap (λ n. map equation all ++ stays i ∷ stays_from n (drop (i + 1) decls)) (add-one i)
     ∙ ap (λ xs. map equation all ++ stays_from i xs) (sym left) ∙ e
+
+no_argument : (i : ℕ) → argument_or_local 0 [] i ≡ local i
+no_argument i = grind (arith, nat_tests)
+
+-- a name without arguments becomes its scheme
+applied_meta : (ss : List SchemeTree) (ks : List ℕ) (m : ℕ) → applied ss ks 0 (meta m no_values) ≡ scheme_for ss m
+applied_meta ss ks m = ap (λ f. filled f (scheme_for ss m)) (λ k i. no_argument i k) ∙ filled_local (scheme_for ss m)
 
 module _ (ss : List SchemeTree) (ks : List ℕ) where
   is_itself : (m : ℕ) (decl : MetaDecl) → decl.params ≡ [] → itself m decl ≡ meta m no_values
@@ -69,8 +74,8 @@ module _ (ss : List SchemeTree) (ks : List ℕ) where
 
   one_stays : (m : ℕ) (decl : MetaDecl) → decl.params ≡ [] → (slice_get ss m ≡ Some (itself m decl)) ↔ (applied ss ks 0 (meta m no_values) ≡ meta m no_values)
   one_stays m decl e = (
-    λ h. applied_meta ss ks m no_values refl ∙ ap (λ o. unwrap_or o (local 0)) h ∙ is_itself m decl e,
-    λ h. found (slice_get ss m) m (sym (applied_meta ss ks m no_values refl) ∙ h) ∙ ap Some (sym (is_itself m decl e)),
+    λ h. applied_meta ss ks m ∙ ap (λ o. unwrap_or o (local 0)) h ∙ is_itself m decl e,
+    λ h. found (slice_get ss m) m (sym (applied_meta ss ks m) ∙ h) ∙ ap Some (sym (is_itself m decl e)),
   )
 
   all_stay : (n : ℕ) (decls : List MetaDecl) → HaveNoParameters decls →
@@ -146,20 +151,20 @@ module _ (th : Theory) (system : IsPlainSystem th) (st : Theorem) (scope : Names
       match_from (slice_get names.metas k) (λ d. (d.cat.0 ≡ decl.cat.0) × AreValues th.sig names [] (map (λ p. p.0) d.params) no_values) decl here
       (refl, subst (λ ps. AreValues th.sig names [] (map (λ p. p.0) ps) no_values) (sym none) tt)
 
-  one_side : (k : ℕ) (decl : MetaDecl) → slice_get scope.metas k ≡ Some decl → k < length scope.metas → GoTogether th.sig st.scope scope (stays k)
+  one_side : (k : ℕ) (decl : MetaDecl) → slice_get scope.metas k ≡ Some decl → k < length scope.metas → AreSidesInto th.sig st.scope scope (stays k)
   one_side k decl here below =
       let none = all_at (λ (m : MetaDecl). m.params ≡ []) scope.metas k decl plain.metas here in
       let there : slice_get st.scope.metas k ≡ Some decl = ap (λ (ms : List MetaDecl). slice_get ms k) is.split ∙ append_within scope.metas is.goal_names k below ∙ here in
-      (refl, (decl.cat.0, in_names st.scope k decl there none, in_names scope k decl here none))
+      (decl.cat.0, in_names st.scope k decl there none, in_names scope k decl here none)
 
-  sides_together : (eqs : List SchemeEquation) → total ≡ Some eqs → AllByRecursion (λ e. e.locals ≡ []) eqs × AllByRecursion (AreSidesInto th.sig st.scope scope) eqs
+  sides_together : (eqs : List SchemeEquation) → total ≡ Some eqs → AllByRecursion (AreSidesInto th.sig st.scope scope) eqs
   sides_together eqs e =
-      let stay = from_stays (GoTogether th.sig st.scope scope) 0 scope.metas
-      (numbered (λ m decl. GoTogether th.sig st.scope scope (stays m)) 0 scope.metas
-      (λ k decl here. subst (λ m. GoTogether th.sig st.scope scope (stays m)) (let z : k ≡ 0 + k = omega arith in z) (one_side k decl here (slice_get_within scope.metas k decl here)))) in
-      let all = each_both (GoTogether th.sig st.scope scope) (all_equations st.outputs (form ∷ [])) (Some (stays_from 0 scope.metas))
+      let stay = from_stays (AreSidesInto th.sig st.scope scope) 0 scope.metas
+      (all_numbered (λ m decl. AreSidesInto th.sig st.scope scope (stays m)) 0 scope.metas
+      (λ k decl here. subst (λ m. AreSidesInto th.sig st.scope scope (stays m)) (let z : k ≡ 0 + k = omega arith in z) (one_side k decl here (slice_get_within scope.metas k decl here)))) in
+      let all = each_both (AreSidesInto th.sig st.scope scope) (all_equations st.outputs (form ∷ [])) (Some (stays_from 0 scope.metas))
       (all_sides th st.scope scope st.outputs (form ∷ []) outputs_plain (form_plain, tt)) stay in
-      firsts (λ e. e.locals ≡ []) (AreSidesInto th.sig st.scope scope) eqs (subst (EachOf (GoTogether th.sig st.scope scope)) e all)
+      subst (EachOf (AreSidesInto th.sig st.scope scope)) e all
 
   strict_one : (k : ℕ) (decl : MetaDecl) → slice_get st.scope.metas k ≡ Some decl → SomeOf (λ e. StrictIn k e.left) total
   strict_one k decl here = elim (cases_lt k (length scope.metas)) [
@@ -176,20 +181,11 @@ module _ (th : Theory) (system : IsPlainSystem th) (st : Theorem) (scope : Names
 
   pub are_to_fit : (eqs : List SchemeEquation) → total ≡ Some eqs → AreToFitInto th.sig st.scope scope eqs
   are_to_fit eqs e = record {
-    sides = (sides_together eqs e).1;
-    strict = numbered (λ m decl. AnyByRecursion (λ e. StrictIn m e.left) eqs) 0 st.scope.metas
+    knowns = provable.scope.1;
+    sides = sides_together eqs e;
+    strict = all_numbered (λ m decl. AnyByRecursion (λ e. StrictIn m e.left) eqs) 0 st.scope.metas
         (λ k decl here. subst (λ m. AnyByRecursion (λ e. StrictIn m e.left) eqs) (let z : k ≡ 0 + k = omega arith in z)
         (subst (SomeOf (λ e. StrictIn k e.left)) e (strict_one k decl here)));
-  }
-
-  pub nothing_bound : (eqs : List SchemeEquation) → total ≡ Some eqs → AreWithoutBindingInto th.sig st.scope scope eqs
-  nothing_bound eqs e = record {
-    slots = system.plain.sig.no_binding;
-    metas = provable.metas;
-    knowns = provable.scope.1;
-    into_metas = plain.metas;
-    into_knowns = plain.knowns;
-    locals = (sides_together eqs e).0;
   }
 
   pub none_has : total ≡ None → HasGoal th st scope form → ⊥

@@ -1,14 +1,14 @@
 -- Where right proofs of statements stand, the scope and the forms are plain.
 use Rattle.std.specs.Prelude.{Option}
-use Rattle.std.proofs.Common.{MatchOption, ◌≡◌, ℕ, List, [], ◌∷◌, ◌++◌, length, take, Some, None, slice_get, inl, inr, ap, ◌∙◌, sym, subst}
-use Rattle.std.proofs.Math.Seq.{take-append_seam}
+use Rattle.std.proofs.Common.{MatchOption, ◌≡◌, ◌↔◌, ◌+◌, ◌<◌, ◌≤◌, ℕ, List, [], ◌∷◌, ◌++◌, length, take, drop, refl, arith, Some, None, slice_get, inl, inr, ap, ◌∙◌, sym, subst}
+use Rattle.std.proofs.Math.Seq.{take-append_seam, drop-append_seam}
+use Rattle.std.proofs.lemmas.List.{length-take, take-append-drop}
+use Rattle.std.proofs.lemmas.Option.{slice_get_within}
 use Rattle.std.specs.List.{AllByRecursion}
-use Rattle.binding_terms.specs.Numbered.{AnyByRecursion}
+use Rattle.binding_terms.specs.Numbered.{AllNumbered, AnyByRecursion}
 use Rattle.scheme_terms.specs.Forms.{Names}
 use Rattle.scheme_terms.specs.declared.scheme.MetaDecl.{MetaDecl}
 use Rattle.pattern_unify.specs.Plain.{HaveNoParameters}
-use Rattle.pattern_unify.proofs.PlainSchemes.{all_at}
-use Rattle.pattern_unify.proofs.Solving.{all_append}
 use Rattle.rule_schemes.specs.Rules.{JudgmentScheme, Theory, IsJudgmentScheme}
 use Rattle.rule_schemes.specs.Plain.{IsPlainSystem}
 use Rattle.rule_schemes.specs.Statement.{StatementInput, given, syntax_input, Theorem, OccursInInput, OccursInJudgment, IsOfInputs, IsStatementInput}
@@ -18,7 +18,7 @@ use Rattle.core_proofs.specs.Proof.{IsProofScope, given_judgments, Standing, out
 use Rattle.core_proofs.specs.Provable.{IsProvable, CountsInputs}
 use Rattle.core_proofs.proofs.Moving.{Follows, leads_on, counted, is_front}
 use Rattle.core_proofs.proofs.PlainForms.{form_in_front, plain_form}
-use Rattle.binding_terms.proofs.Lists.{match_from, match_some}
+use Rattle.binding_terms.proofs.Lists.{all_at, all_front, all_numbered, all_push, match_from, match_some}
 
 -- The scope of a proof that was begun, the forms in scope and the last form: nothing binds, and there is no context.
 pub record IsPlainProof (th : Theory) (st : Theorem) (scope : Names) (scoped : List JudgmentScheme) (last : Option JudgmentScheme) : Type 0 where
@@ -42,12 +42,43 @@ counted_scope st given_scope n scope counts root metas knowns =
     λ i. record { root = (given_scope.1.root ∙ sym root) i; metas = sym front i; knowns = (given_scope.1.knowns ∙ sym knowns) i } in
     subst (IsProofScope st) same given_scope.1
 
+-- a proof begins in a scope exactly where no further name stands in an input
+pub where_scope_ends : (st : Theorem) (n : ℕ) → CountsInputs st n →
+    AllNumbered (λ m decl. IsOfInputs st m → ⊥) n (drop n st.scope.metas) ↔ ((scope : Names) × IsProofScope st scope)
+where_scope_ends st n counts = (λ further. (there, ending further), λ h. split_there h.0 h.1)
+  where
+    front : List MetaDecl
+    front = take n st.scope.metas
+
+    long : length front ≡ n
+    long = omega (arith, length-take n st.scope.metas, counts.in_range)
+
+    there : Names
+    there = record { root = st.scope.root; metas = front; knowns = [] }
+
+    ending : AllNumbered (λ m (decl : MetaDecl). IsOfInputs st m → ⊥) n (drop n st.scope.metas) → IsProofScope st there
+    ending further = record {
+      root = refl;
+      knowns = refl;
+      goal_names = drop n st.scope.metas;
+      split = sym (take-append-drop n st.scope.metas);
+      of_inputs = all_numbered (λ m decl. IsOfInputs st m) 0 front (λ i decl at. counts.of_inputs (0 + i) (omega (arith, long, slice_get_within front i decl at)));
+      further = subst (λ k. AllNumbered (λ m (decl : MetaDecl). IsOfInputs st m → ⊥) k (drop n st.scope.metas)) (sym long) further;
+    }
+
+    split_there : (scope : Names) → IsProofScope st scope → AllNumbered (λ m (decl : MetaDecl). IsOfInputs st m → ⊥) n (drop n st.scope.metas)
+    split_there scope is =
+        let same : n ≡ length scope.metas = counted st scope n is counts in
+        let behind : drop (length scope.metas) st.scope.metas ≡ is.goal_names = ap (drop (length scope.metas)) is.split ∙ drop-append_seam scope.metas is.goal_names in
+        subst (λ k. AllNumbered (λ m (decl : MetaDecl). IsOfInputs st m → ⊥) k (drop k st.scope.metas)) (sym same)
+        (subst (AllNumbered (λ m (decl : MetaDecl). IsOfInputs st m → ⊥) (length scope.metas)) (sym behind) is.further)
+
 module _ (th : Theory) (system : IsPlainSystem th) where
   module _ (st : Theorem) (provable : IsProvable th st) (scope : Names) (is : IsProofScope st scope) where
     pub plain_scope : IsPlainScope scope
     plain_scope = record {
       root = is.root ∙ provable.root;
-      metas = ((all_append (λ (m : MetaDecl). m.params ≡ []) scope.metas is.goal_names).0 (subst HaveNoParameters is.split provable.metas)).0;
+      metas = all_front (λ (m : MetaDecl). m.params ≡ []) scope.metas is.goal_names (subst HaveNoParameters is.split provable.metas);
       knowns = is.knowns;
     }
 
@@ -83,7 +114,7 @@ module _ (th : Theory) (system : IsPlainSystem th) where
         record {
           begun = got.2.begun;
           names = got.2.names;
-          forms = (all_append (IsPlainForm th scope) scoped (form ∷ [])).1 (got.2.forms, (one, tt));
+          forms = all_push (IsPlainForm th scope) scoped form got.2.forms one;
           last_form = one;
         }
         ))

@@ -1,6 +1,6 @@
 -- What right steps make derives the goal.
-use Rattle.std.proofs.Common.{◌≡◌, ℕ, zero, suc, List, [], ◌∷◌, ◌++◌, Some, slice_get, subst}
-use Rattle.std.specs.List.{AllByRecursion, AllZip}
+use Rattle.std.proofs.Common.{◌≡◌, [], ◌∷◌, ◌++◌, Some, subst}
+use Rattle.std.specs.List.{AllByRecursion}
 use Rattle.scheme_terms.specs.declared.scheme.Root.TheVariants.{Closed}
 use Rattle.rule_schemes.specs.Rules.{Rule, IsInstance, IsJudgmentScheme, rule_names, judgment_instance}
 use Rattle.rule_schemes.specs.Derivation.{node, judgment, Derives}

@@ -4,13 +4,12 @@ use Rattle.std.proofs.lemmas.List.{length-append}
 use Rattle.std.proofs.lemmas.Bool.{cases_order, cases_lt}
 use Rattle.std.proofs.lemmas.Option.{same_Some}
 use Rattle.scheme_terms.specs.Forms.{Names}
-use Rattle.pattern_unify.proofs.Places.{numbered_at, within as place_within}
 use Rattle.rule_schemes.specs.Rules.{JudgmentScheme, Theory}
 use Rattle.rule_schemes.specs.Statement.{Theorem, IsOfInputs}
 use Rattle.core_proofs.specs.Step.{Step, begin_theorem, end_theorem, by_rule}
 use Rattle.core_proofs.specs.Proof.{IsProofScope, HasGoal, given_judgments, Standing, outside, within, Move, begins, by_a_rule, ends, Leads, no_step, one_step}
 use Rattle.core_proofs.specs.Provable.{IsRightByRule, CountsInputs}
-use Rattle.binding_terms.proofs.Lists.{same_front}
+use Rattle.binding_terms.proofs.Lists.{numbered_at, same_front, some_within as place_within}
 
 -- what a right beginning asks, and where it leads
 pub record Begins (th : Theory) (sts : List Theorem) (k n : ℕ) (to : Standing) : Type 0 where

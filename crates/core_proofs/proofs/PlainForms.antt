@@ -1,12 +1,11 @@
 -- Over a system without contexts each form of a judgment has none, and its rules are plain.
-use Rattle.std.proofs.Common.{arith, ◌≤◌, ◌≡◌, ℕ, zero, suc, ◌<◌, List, [], ◌∷◌, ◌++◌, length, map, Option, Some, None, slice_get, MatchOption, inl, inr, refl, ap, ◌∙◌, sym, subst, true≢false}
-use Rattle.std.specs.Prelude.{true, false, count_by, ◌==◌}
+use Rattle.std.proofs.Common.{arith, ◌≤◌, ◌≡◌, ℕ, ◌<◌, List, [], ◌∷◌, ◌++◌, length, map, Option, Some, None, slice_get, inl, inr, refl, ap, ◌∙◌, sym, subst}
+use Rattle.std.specs.Prelude.{count_by, ◌==◌}
 use Rattle.std.proofs.lemmas.Option.{slice_get_within}
 use Rattle.std.specs.List.{AllByRecursion}
 use Rattle.binding_terms.specs.Numbered.{AnyByRecursion}
-use Rattle.binding_terms.specs.Signature.{Signature, Place, slots, binders, IsContext}
+use Rattle.binding_terms.specs.Signature.{Signature, Place, slots, binders}
 use Rattle.binding_terms.specs.Scope.{bound}
-use Rattle.binding_terms.specs.declared.grammar.Cat.{Cat}
 use Rattle.binding_terms.specs.declared.grammar.CatId.{CatId}
 use Rattle.scheme_terms.specs.SchemeTree.{SchemeTree, meta, known, local, con, Values, no_values, value, Parts, no_parts, part, OccursIn, OccursInValues, OccursInParts}
 use Rattle.scheme_terms.specs.Forms.{Names, SchemeEntry}
@@ -14,44 +13,28 @@ use Rattle.scheme_terms.specs.SchemeScope.{IsScheme, AreValues, AreSchemeParts, 
 use Rattle.scheme_terms.specs.declared.scheme.MetaDecl.{MetaDecl}
 use Rattle.scheme_terms.specs.declared.scheme.Root.{Root}
 use Rattle.scheme_terms.specs.declared.scheme.Root.TheVariants.{Closed, Empty, Whole}
-use Rattle.pattern_unify.proofs.PlainSchemes.{all_at}
 use Rattle.rule_schemes.specs.declared.rule.Judgment.{Judgment}
 use Rattle.rule_schemes.specs.Rules.{JudgmentScheme, Rule, Theory, JudgmentFits, RuleFits, IsRootOf, IsJudgmentScheme, MayStand, ENTRIES, argument_slots, rule_names}
-use Rattle.rule_schemes.specs.Plain.{IsPlainSignature, IsPlainSystem, HasPlainNames}
+use Rattle.rule_schemes.specs.Plain.{IsPlainSystem, HasPlainNames}
 use Rattle.rule_schemes.specs.Statement.{OccursInJudgment}
 use Rattle.core_proofs.specs.Plain.{IsPlainForm, IsPlainRule}
 use Rattle.core_proofs.specs.Proof.{IsStepForm}
-use Rattle.binding_terms.proofs.Lists.{append_within, match_from, match_some}
-
-no_context : (cats : List Cat) (c : ℕ) → AllByRecursion (λ cat. cat.context ≡ false) cats
-    → MatchOption (slice_get cats c) ⊥ (λ cat. cat.context ≡ true) → ⊥
-no_context [] c all h = h
-no_context (cat ∷ cats) zero all h = absurd (true≢false (sym h ∙ all.0))
-no_context (cat ∷ cats) (suc c) all h = no_context cats c all.1 h
-
-assumes_none : (sig : Signature) (Rest : CatId → Type 0) (ctx : Option CatId) → IsPlainSignature sig
-    → MatchOption ctx (Unit {0}) (λ c. IsContext sig c.0 × Rest c) → ctx ≡ None
-assumes_none sig Rest None plain h = refl
-assumes_none sig Rest (Some c) plain h = absurd (no_context sig.cats c.0 plain.no_context h.0)
-
-closed_root : (root : Root) → IsRootOf None root → root ≡ Closed
-closed_root Closed h = refl
-closed_root (Empty c) h = absurd h
-closed_root (Whole c) h = absurd h
+use Rattle.binding_terms.proofs.Lists.{all_at, append_within, match_from, match_some}
+use Rattle.rule_schemes.proofs.PlainLemmas.{no_context_assumed, is_closed}
 
 module _ (th : Theory) (system : IsPlainSystem th) where
   -- no judgment assumes a context
   pub judgment_assumes_none : (k : ℕ) (form : Judgment) → slice_get th.judgments k ≡ Some form → form.ctx ≡ None
   judgment_assumes_none k form here =
       let fits : JudgmentFits th.sig form = all_at (JudgmentFits th.sig) th.judgments k form system.so_far.judgments here in
-      assumes_none th.sig (λ c. count_by (λ s. s.cat == c.0) (slots form.items) ≡ 1) form.ctx system.plain.sig fits.assumed
+      no_context_assumed th.sig (λ c. count_by (λ s. s.cat == c.0) (slots form.items) ≡ 1) form.ctx system.plain.sig fits.assumed
 
   pub form_is_closed : (names : Names) (j : JudgmentScheme) → IsJudgmentScheme th names j → j.context.root ≡ Closed
   form_is_closed names j is =
       let got = match_some (slice_get th.judgments j.judgment)
       (λ form. IsRootOf form.ctx j.context.root × IsSchemeContext th.sig names j.context
       × AreSchemes th.sig names (entry_variables th.sig [] j.context.entries) (argument_slots form.ctx (slots form.items)) j.args) is in
-      closed_root j.context.root (subst (λ (o : Option CatId). IsRootOf o j.context.root) (judgment_assumes_none j.judgment got.0 got.1) got.2.0)
+      is_closed j.context.root (subst (λ (o : Option CatId). IsRootOf o j.context.root) (judgment_assumes_none j.judgment got.0 got.1) got.2.0)
 
   pub plain_form : (names : Names) (j : JudgmentScheme) → IsJudgmentScheme th names j → IsPlainForm th names j
   plain_form names j is = record { root = form_is_closed names j is; in_scope = is }

@@ -5,7 +5,6 @@ use Rattle.std.proofs.lemmas.Option.{slice_get-map, same_Some}
 use Rattle.std.specs.Prelude.{option_map}
 use Rattle.scheme_terms.specs.Forms.{Names}
 use Rattle.scheme_terms.specs.View.{names}
-use Rattle.pattern_unify.proofs.PlainSchemes.{all_at}
 use Rattle.rule_schemes.specs.Rules.{JudgmentScheme}
 use Rattle.rule_schemes.specs.Plain.{IsPlainSystem}
 use Rattle.rule_schemes.specs.Statement.{Theorem}
@@ -25,7 +24,7 @@ use Rattle.core_proofs.specs.Provable.{IsProvable, IsRightByRule}
 use Rattle.core_proofs.specs.Kept.{Kept, kept_theory, kept_statements, kept_steps, form_at, standing, IsProving, IsAccepted}
 use Rattle.core_proofs.proofs.Moving.{Follows, leads_more, no_more, one_end}
 use Rattle.core_proofs.proofs.Keeping.{IsPlainProof, StandsPlainly, all_keep}
-use Rattle.binding_terms.proofs.Lists.{match_some}
+use Rattle.binding_terms.proofs.Lists.{all_at, match_some}
 
 -- no step of this kind is right where the steps so far stand
 abbrev pub IsRefused : Kept → Step → Type 0

@@ -3,7 +3,7 @@ use Rattle.std.proofs.Common.{◌≡◌, ◌↔◌, ◌⊎◌, ◌==◌, ◌&&�
 use Rattle.std.proofs.lemmas.Bool.Decides.{nat_tests}
 use Rattle.std.proofs.lemmas.List.{length-map}
 use Rattle.std.specs.List.{AllByRecursion}
-use Rattle.binding_terms.specs.Numbered.{AnyByRecursion, AllNumbered}
+use Rattle.binding_terms.specs.Numbered.{AnyByRecursion}
 use Rattle.binding_terms.specs.Signature.{Signature, Place, slots}
 use Rattle.scheme_terms.specs.SchemeTree.{SchemeTree, StrictIn}
 use Rattle.scheme_terms.specs.Forms.{SchemeContext, Names, Substitution}
@@ -11,17 +11,14 @@ use Rattle.scheme_terms.specs.SchemeScope.{AreSchemes, IsSchemeContext, AreExpli
 use Rattle.scheme_terms.specs.Substituting.{applied, IsSubstitution}
 use Rattle.scheme_terms.specs.declared.scheme.MetaDecl.{MetaDecl}
 use Rattle.pattern_unify.specs.Equations.{SchemeEquation}
-use Rattle.pattern_unify.specs.Plain.{NothingBinds}
-use Rattle.pattern_unify.specs.Fit.{Becomes}
-use Rattle.pattern_unify.specs.FitInto.{AreSidesInto, AreToFitInto, IsFitInto, IsOnlyFitInto, AreWithoutBindingInto}
-use Rattle.pattern_unify.proofs.Solving.{all_append, any_append}
+use Rattle.pattern_unify.specs.FitInto.{AreSidesInto, AreToFitInto, Becomes, IsFitInto, IsOnlyFitInto}
 use Rattle.rule_schemes.specs.Rules.{JudgmentScheme, Rule, Theory, IsRootOf, IsOneEntry, StrictInEntries, StrictInJudgment, StrictInRule, argument_slots, rule_names}
 use Rattle.core_proofs.specs.FormEquations.{paired, form_equations, both, all_equations}
 use Rattle.core_proofs.specs.RuleStep.{form_in, IsRaisedTo, IsRuleInstance}
-use Rattle.core_proofs.specs.Plain.{IsPlainScope, IsPlainForm, IsPlainRule}
+use Rattle.core_proofs.specs.Plain.{IsPlainForm, IsPlainRule}
 use Rattle.core_proofs.proofs.ClosedForms.{closed_form, is_closed_form}
 use Rattle.core_proofs.proofs.RuleSteps.{form_is}
-use Rattle.binding_terms.proofs.Lists.{match_some, numbered_map}
+use Rattle.binding_terms.proofs.Lists.{all_append, all_front, all_right, any_front, any_back, match_some, numbered_map}
 
 -- the places of a judgment's arguments
 abbrev pub places : Theory → ℕ → List Place
@@ -91,7 +88,7 @@ pub match_both : (P : SchemeEquation → Type 0) (xs ys : Option (List SchemeEqu
     MatchOption (both xs ys) ⊥ (AllByRecursion P) ↔ (MatchOption xs ⊥ (AllByRecursion P) × MatchOption ys ⊥ (AllByRecursion P))
 match_both P None ys = (λ h. absurd h, λ h. h.0)
 match_both P (Some xs) None = (λ h. absurd h, λ h. h.1)
-match_both P (Some xs) (Some ys) = all_append P xs ys
+match_both P (Some xs) (Some ys) = (λ h. (all_front P xs ys h, all_right P xs ys h), λ h. all_append P xs ys h.0 h.1)
 
 module _ (ctx : SchemeContext) (by : Substitution) where
   one_form : (j t : JudgmentScheme) → j ≡ closed_form j.judgment j.args → t ≡ closed_form t.judgment t.args →
@@ -140,39 +137,35 @@ EachOf P o = MatchOption o (Unit {0}) (AllByRecursion P)
 pub each_both : (P : SchemeEquation → Type 0) (xs ys : Option (List SchemeEquation)) → EachOf P xs → EachOf P ys → EachOf P (both xs ys)
 each_both P None ys h g = tt
 each_both P (Some xs) None h g = tt
-each_both P (Some xs) (Some ys) h g = (all_append P xs ys).1 (h, g)
-
--- the equation has no locals and its sides go together
-abbrev pub GoTogether : Signature → (from into : Names) → SchemeEquation → Type 0
-GoTogether sig from into e = (e.locals ≡ []) × AreSidesInto sig from into e
+each_both P (Some xs) (Some ys) h g = all_append P xs ys h g
 
 paired_sides : (sig : Signature) (from into : Names) (ps : List Place) (ss ts : List SchemeTree) → AreSchemes sig from [] ps ss → AreSchemes sig into [] ps ts →
-    AllByRecursion (GoTogether sig from into) (paired ss ts)
+    AllByRecursion (AreSidesInto sig from into) (paired ss ts)
 paired_sides sig from into [] [] ts h g = tt
 paired_sides sig from into [] (s ∷ ss) ts h g = absurd h
 paired_sides sig from into (p ∷ ps) [] ts h g = absurd h
 paired_sides sig from into (p ∷ ps) (s ∷ ss) [] h g = absurd g
-paired_sides sig from into (p ∷ ps) (s ∷ ss) (t ∷ ts) h g = ((refl, (p.cat, h.0, g.0)), paired_sides sig from into ps ss ts h.1 g.1)
+paired_sides sig from into (p ∷ ps) (s ∷ ss) (t ∷ ts) h g = ((p.cat, h.0, g.0), paired_sides sig from into ps ss ts h.1 g.1)
 
 module _ (th : Theory) (from into : Names) where
-  form_sides : (j t : JudgmentScheme) → IsBareForm th from j → IsBareForm th into t → EachOf (GoTogether th.sig from into) (form_equations j t)
+  form_sides : (j t : JudgmentScheme) → IsBareForm th from j → IsBareForm th into t → EachOf (AreSidesInto th.sig from into) (form_equations j t)
   form_sides j t jb tb = at (form_equations j t) refl
     where
-      at : (o : Option (List SchemeEquation)) → form_equations j t ≡ o → EachOf (GoTogether th.sig from into) o
+      at : (o : Option (List SchemeEquation)) → form_equations j t ≡ o → EachOf (AreSidesInto th.sig from into) o
       at None e = tt
       at (Some eqs) e =
           let parts = form_some j t eqs e in
-          subst (AllByRecursion (GoTogether th.sig from into)) parts.2
+          subst (AllByRecursion (AreSidesInto th.sig from into)) parts.2
           (paired_sides th.sig from into (places th j.judgment) j.args t.args jb.args
           (subst (λ k. AreSchemes th.sig into [] (places th k) t.args) (sym parts.0) tb.args))
 
   pub all_sides : (js ts : List JudgmentScheme) → AllByRecursion (IsPlainForm th from) js → AllByRecursion (IsPlainForm th into) ts →
-      EachOf (GoTogether th.sig from into) (all_equations js ts)
+      EachOf (AreSidesInto th.sig from into) (all_equations js ts)
   all_sides [] [] h g = tt
   all_sides [] (t ∷ ts) h g = tt
   all_sides (j ∷ js) [] h g = tt
   all_sides (j ∷ js) (t ∷ ts) h g =
-      each_both (GoTogether th.sig from into) (form_equations j t) (all_equations js ts)
+      each_both (AreSidesInto th.sig from into) (form_equations j t) (all_equations js ts)
       (form_sides j t (bare th from j h.0) (bare th into t g.0)) (all_sides js ts h.1 g.1)
 
 -- a strict occurrence in a form is one in a left side, where there are equations
@@ -188,7 +181,8 @@ SomeOf P o = MatchOption o (Unit {0}) (AnyByRecursion P)
 pub some_both : (P : SchemeEquation → Type 0) (xs ys : Option (List SchemeEquation)) → SomeOf P xs ⊎ SomeOf P ys → SomeOf P (both xs ys)
 some_both P None ys h = tt
 some_both P (Some xs) None h = tt
-some_both P (Some xs) (Some ys) h = any_append P xs ys h
+some_both P (Some xs) (Some ys) (inl h) = any_front P xs ys h
+some_both P (Some xs) (Some ys) (inr h) = any_back P xs ys h
 
 form_strict : (m : ℕ) (j t : JudgmentScheme) → j.context.entries ≡ [] → StrictInJudgment m j → SomeOf (λ e. StrictIn m e.left) (form_equations j t)
 form_strict m j t none (inl h) = absurd (subst (StrictInEntries m) none h)
@@ -207,12 +201,8 @@ all_strict th names m (j ∷ js) (t ∷ ts) p (inl h) =
 all_strict th names m (j ∷ js) (t ∷ ts) p (inr h) =
     some_both (λ e. StrictIn m e.left) (form_equations j t) (all_equations js ts) (inr (all_strict th names m js ts p.1 h))
 
-pub firsts : (P Q : SchemeEquation → Type 0) (es : List SchemeEquation) → AllByRecursion (λ e. P e × Q e) es → AllByRecursion P es × AllByRecursion Q es
-firsts P Q [] h = (tt, tt)
-firsts P Q (e ∷ es) h = let rest = firsts P Q es h.1 in ((h.0.0, rest.0), (h.0.1, rest.1))
-
 module _ (th : Theory) (scope : Names) (form : JudgmentScheme) (cited : List JudgmentScheme) (rule : Rule)
-    (plain : IsPlainScope scope) (form_plain : IsPlainForm th scope form) (cited_plain : AllByRecursion (IsPlainForm th scope) cited) (rule_plain : IsPlainRule th rule) where
+    (form_plain : IsPlainForm th scope form) (cited_plain : AllByRecursion (IsPlainForm th scope) cited) (rule_plain : IsPlainRule th rule) where
   abbrev total : Option (List SchemeEquation)
   total = both (all_equations rule.premises cited) (form_equations rule.conclusion form)
 
@@ -249,12 +239,12 @@ module _ (th : Theory) (scope : Names) (form : JudgmentScheme) (cited : List Jud
         premises = (premise_forms by).1 all.0;
       }
 
-  pub sides_together : (eqs : List SchemeEquation) → total ≡ Some eqs → AllByRecursion (λ e. e.locals ≡ []) eqs × AllByRecursion (AreSidesInto th.sig (rule_names rule) scope) eqs
+  pub sides_together : (eqs : List SchemeEquation) → total ≡ Some eqs → AllByRecursion (AreSidesInto th.sig (rule_names rule) scope) eqs
   sides_together eqs e =
-      let all = each_both (GoTogether th.sig (rule_names rule) scope) (all_equations rule.premises cited) (form_equations rule.conclusion form)
+      let all = each_both (AreSidesInto th.sig (rule_names rule) scope) (all_equations rule.premises cited) (form_equations rule.conclusion form)
       (all_sides th (rule_names rule) scope rule.premises cited rule_plain.premises cited_plain)
       (form_sides th (rule_names rule) scope rule.conclusion form (bare th (rule_names rule) rule.conclusion rule_plain.conclusion) (bare th scope form form_plain)) in
-      firsts (λ e. e.locals ≡ []) (AreSidesInto th.sig (rule_names rule) scope) eqs (subst (EachOf (GoTogether th.sig (rule_names rule) scope)) e all)
+      subst (EachOf (AreSidesInto th.sig (rule_names rule) scope)) e all
 
   strict_one : (eqs : List SchemeEquation) → total ≡ Some eqs → (m : ℕ) (decl : MetaDecl) → StrictInRule rule m → AnyByRecursion (λ e. StrictIn m e.left) eqs
   strict_one eqs e m decl (inl h) = absurd (subst (λ r. IsOneEntry r rule.conclusion.context.entries) rule_plain.conclusion.root h.0)
@@ -267,18 +257,9 @@ module _ (th : Theory) (scope : Names) (form : JudgmentScheme) (cited : List Jud
 
   pub are_to_fit : (eqs : List SchemeEquation) → total ≡ Some eqs → AreToFitInto th.sig (rule_names rule) scope eqs
   are_to_fit eqs e = record {
-    sides = (sides_together eqs e).1;
-    strict = numbered_map (λ m decl. StrictInRule rule m) (λ m decl. AnyByRecursion (λ e. StrictIn m e.left) eqs) (strict_one eqs e) 0 rule.metas rule_plain.strict;
-  }
-
-  pub nothing_bound : NothingBinds th.sig → (eqs : List SchemeEquation) → total ≡ Some eqs → AreWithoutBindingInto th.sig (rule_names rule) scope eqs
-  nothing_bound binds eqs e = record {
-    slots = binds;
-    metas = rule_plain.metas;
     knowns = refl;
-    into_metas = plain.metas;
-    into_knowns = plain.knowns;
-    locals = (sides_together eqs e).0;
+    sides = sides_together eqs e;
+    strict = numbered_map (λ m decl. StrictInRule rule m) (λ m decl. AnyByRecursion (λ e. StrictIn m e.left) eqs) (strict_one eqs e) 0 rule.metas rule_plain.strict;
   }
 
   pub none_is : total ≡ None → IsRuleInstance th scope form cited rule → ⊥

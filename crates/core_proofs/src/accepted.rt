@@ -1,5 +1,5 @@
 // Proofs of which every step is right, and all of whose theorems are ended.
-ghost use Rattle.std.specs.Prelude.{◌≡◌, ◌↔◌, [], map, IsTrue, IfSome, IfNone};
+ghost use Rattle.std.specs.Prelude.{◌≡◌, ◌↔◌, [], IsTrue, IfSome, IfNone};
 ghost use Rattle.std.specs.List.{AllByRecursion};
 ghost use Rattle.rule_schemes.specs.View.{statement};
 ghost use Rattle.core_proofs.specs.Kept.{kept_statements, IsAccepted};

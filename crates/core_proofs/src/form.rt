@@ -1,5 +1,5 @@
-// Whether a form is one of a judgment over a scope, and copies of forms.
-ghost use Rattle.std.specs.Prelude.{◌≡◌, ◌↔◌, IsTrue, [], map, IfOk};
+// Whether a form is one of a judgment over a scope.
+ghost use Rattle.std.specs.Prelude.{◌≡◌, ◌↔◌, IsTrue, [], map};
 ghost use Rattle.std.specs.List.{AllByRecursion};
 ghost use Rattle.binding_terms.specs.Signature.{slots, binders};
 ghost use Rattle.scheme_terms.specs.View.{names, scheme, scheme_part, scheme_parts, scheme_entry};
@@ -9,11 +9,10 @@ ghost use Rattle.rule_schemes.specs.Rules.{IsJudgmentScheme};
 ghost use Rattle.rule_schemes.specs.View.{theory, judgment_scheme};
 ghost use Rattle.core_proofs.specs.Plain.{IsPlainScope};
 
-use binding_terms::{CatId, Item, NoMemory, Sig};
+use binding_terms::{CatId, Item, Sig};
 use rule_schemes::{JScheme, System};
-use scheme_terms::{Root, SArg, SCtx, SEntry, Scheme, Scope, copy_entry, copy_scheme};
-use sqlite_items::{Items, at};
-use std::alloc::Global;
+use scheme_terms::{Root, SArg, SCtx, Scheme, Scope};
+use sqlite_items::at;
 
 /// Whether the scheme is one of the category in the scope. Nothing binds.
 #[cycle(is_scheme)]
@@ -117,42 +116,4 @@ pub fn is_form(system: &System, scope: &Scope, form: &JScheme) -> bool
             ),
         None => false,
     }
-}
-
-#[tactic(auto, using(std::proofs::lemmas::List::take_all))]
-fn copy_schemes(alloc: Global, args: &[Scheme]) -> Result<Items<Scheme>, NoMemory>
-    ensures { IfOk result (λ all. map scheme all ≡ map scheme args.now) }
-{
-    let mut all = Items::new(alloc);
-    for arg in args {
-        all.push(copy_scheme(alloc, arg)?)?;
-    }
-    Ok(all)
-}
-
-#[tactic(auto, using(std::proofs::lemmas::List::take_all))]
-fn copy_entries(alloc: Global, entries: &[SEntry]) -> Result<Items<SEntry>, NoMemory>
-    ensures { IfOk result (λ all. map scheme_entry all ≡ map scheme_entry entries.now) }
-{
-    let mut all = Items::new(alloc);
-    for entry in entries {
-        all.push(copy_entry(alloc, entry)?)?;
-    }
-    Ok(all)
-}
-
-/// The same form again.
-pub(crate) fn copy_form(alloc: Global, form: &JScheme) -> Result<JScheme, NoMemory>
-    ensures { IfOk result (λ new. judgment_scheme new ≡ judgment_scheme form.now) }
-{
-    let entries = copy_entries(alloc, form.ctx.entries.as_slice())?;
-    let args = copy_schemes(alloc, form.args.as_slice())?;
-    Ok(JScheme {
-        judgment: form.judgment,
-        ctx: SCtx {
-            root: form.ctx.root,
-            entries,
-        },
-        args,
-    })
 }

@@ -12,10 +12,9 @@ mod scoping;
 mod step;
 
 pub use accepted::Accepted;
-pub use form::is_form;
 pub use goal::has_goal;
 pub use laws::{makes_derives, rule_step_derives, steps_lead_to_one};
 pub use proving::Proving;
 pub use rule_step::is_rule_instance;
-pub use scoping::proof_scope;
+pub use scoping::{has_proof_scope, proof_scope};
 pub use step::{CoreStep, StepId};

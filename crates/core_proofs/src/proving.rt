@@ -13,12 +13,11 @@ ghost use Rattle.sy_base.specs.declared.fault.Refusal.TheVariants.{Refused};
 
 use crate::accepted::Accepted;
 use crate::citing::{rule_detail, rule_fault};
-use crate::form::copy_form;
 use crate::goal::has_goal;
 use crate::scoping::{given_forms, proof_scope};
 use crate::step::{CoreStep, StepId};
 use binding_terms::{NoMemory, Text};
-use rule_schemes::{JScheme, RuleId, Statement, System, TheoremId};
+use rule_schemes::{JScheme, RuleId, Statement, System, TheoremId, copy_judgment};
 use scheme_terms::{Root, Scope};
 use sqlite_items::{Items, at};
 use std::alloc::Global;
@@ -239,7 +238,7 @@ impl Proving {
             let detail = rule_detail(self.alloc, &self.system, rule, code)?;
             return Err(Refusal::Refused(Fault { line, code, detail }));
         }
-        let again = copy_form(self.alloc, &form)?;
+        let again = copy_judgment(self.alloc, &form)?;
         let number = self.forms.len();
         self.forms.reserve(1)?;
         self.steps.push(CoreStep::Rule {

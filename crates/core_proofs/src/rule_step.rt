@@ -3,12 +3,11 @@ ghost use Rattle.std.specs.Prelude.{◌≡◌, ◌↔◌, ◌++◌, IsTrue, IfOk
 ghost use Rattle.std.specs.List.{AllByRecursion};
 ghost use Rattle.scheme_terms.specs.View.{names, scheme};
 ghost use Rattle.pattern_unify.specs.Equations.{equation};
-ghost use Rattle.pattern_unify.specs.Plain.{NothingBinds};
 ghost use Rattle.rule_schemes.specs.Rules.{rule_names};
 ghost use Rattle.rule_schemes.specs.View.{theory, judgment_scheme, rule as plain_rule};
 ghost use Rattle.core_proofs.specs.FormEquations.{equated, paired, form_equations, all_equations, both};
 ghost use Rattle.core_proofs.specs.RuleStep.{IsRuleInstance};
-ghost use Rattle.core_proofs.specs.Plain.{IsPlainScope, IsPlainForm, IsPlainRule};
+ghost use Rattle.core_proofs.specs.Plain.{IsPlainForm, IsPlainRule};
 
 use binding_terms::{NoMemory, Text};
 use pattern_unify::{Equation, fit_into};
@@ -147,8 +146,6 @@ pub fn is_rule_instance(
     cited: &[&JScheme],
     rule: &RuleScheme,
 ) -> Result<bool, NoMemory>
-    requires slots { NothingBinds system.now.sig }
-    requires scope { IsPlainScope (names scope.now) }
     requires form { IsPlainForm (theory system.now) (names scope.now) (judgment_scheme form.now) }
     requires cited { AllByRecursion (IsPlainForm (theory system.now) (names scope.now)) (map (λ j. judgment_scheme j.now) cited.now) }
     requires rule { IsPlainRule (theory system.now) (plain_rule rule.now) }

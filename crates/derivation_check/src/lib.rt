@@ -4,6 +4,3 @@
 mod deriv;
 
 pub use deriv::Deriv;
-
-#[cfg(test)]
-mod tests;

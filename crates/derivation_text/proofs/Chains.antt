@@ -1,11 +1,10 @@
 -- A worked chain of sums, and one with another conclusion.
 use Rattle.std.proofs.Common.{◌≡◌, [], ◌∷◌, refl, ap, ◌∙◌, sym, arith}
-use Rattle.std.specs.Prelude.{Some, slice_index_or}
-use Rattle.binding_terms.specs.Tree.{Tree, var, con, no_args, arg, nodes}
-use Rattle.rule_schemes.specs.Rules.{JudgmentValue}
+use Rattle.std.specs.Prelude.{Some}
+use Rattle.binding_terms.specs.Tree.{nodes}
 use Rattle.rule_schemes.specs.Derivation.{Derives}
 use Rattle.rule_schemes.specs.Sums.{sums, z, s, closed_value}
-use Rattle.rule_schemes.proofs.Sums.{one_sum_derives}
+use Rattle.rule_schemes.proofs.Sums.{one_sum_derives, third, inner}
 use Rattle.derivation_text.specs.Worked.{two_sum, wrong_two_sum}
 
 pub two_sum_derives : Derives sums two_sum
@@ -20,14 +19,6 @@ two_sum_derives = (
   },
   (one_sum_derives, tt),
 )
-
-abbrev third : JudgmentValue → Tree
-third j = slice_index_or j.args 2 z
-
-abbrev inner : Tree → Tree
-inner (var i) = var i
-inner (con p no_args) = z
-inner (con p (arg n t xs)) = t
 
 -- the premise says that the sum is s z, and the conclusion that it is z
 pub wrong_chain : Derives sums wrong_two_sum → ⊥

@@ -37,9 +37,6 @@ pub record Passes (whole front back : List Read) (n : ℕ) : Type 0 where
   pub forth : (form rest : List Read) → Closes 0 whole form rest → (more : List Read) × (form ≡ front ++ more) × Closes n back more rest
   pub back_from : (more rest : List Read) → Closes n back more rest → Closes 0 whole (front ++ more) rest
 
-pub passes_none : (whole : List Read) → Passes whole [] whole 0
-passes_none whole = record { forth = λ form rest h. (form, refl, h); back_from = λ more rest h. h }
-
 -- what stands behind the first token of a balanced form
 after_token : (n m : ℕ) (t : Read) (ts : List Read) → Turns n t m → IsBalanced n (t ∷ ts) → IsBalanced m ts
 after_token n m t ts (inl h) (opens e b) = subst (λ (k : ℕ). IsBalanced k ts) (sym h.1) b
@@ -167,21 +164,10 @@ front_closes known ts (by_name w) rest h = absurd (kinds w (40 ∷ []) (sym (con
 front_closes known ts (enclosed form) rest h =
     (form, refl, h.is_argument.0, record { tokens_are = cons_tail h.tokens_are ∙ append_assoc form (punctuation 41 ∷ []) rest; balanced = h.is_argument.1 })
 
-pub no_front_unclosed : (known : List Named) (ts : List Read) → HasNoClosing ts → HasNoFront known (punctuation 40 ∷ ts)
-no_front_unclosed known ts none a rest h = (let closed = front_closes known ts a rest h in none closed.0 rest closed.3)
-
 pub no_front_form : (known : List Named) (ts form after : List Read) → Closes 0 ts form after → (IsForm form → ⊥) → HasNoFront known (punctuation 40 ∷ ts)
 no_front_form known ts form after found none a rest h =
     let closed = front_closes known ts a rest h in
     none (subst IsForm (closes_once 0 ts closed.0 form rest after closed.3 found).0 closed.2)
-
-pub front_enclosed : (known : List Named) (ts form after : List Read) → Closes 0 ts form after → IsForm form → IsFront known (punctuation 40 ∷ ts) (enclosed form) after
-front_enclosed known ts form after found is_form =
-    record {
-      tokens_are = ap (λ (x : List Read). punctuation 40 ∷ x) (found.tokens_are ∙ sym (append_assoc form (punctuation 41 ∷ []) after));
-      is_argument = (is_form, found.balanced);
-      is_known = tt;
-    }
 
 pub front_once : (known : List Named) (ts : List Read) (a b : Argument) (r s : List Read) → IsFront known ts a r → IsFront known ts b s → (a ≡ b) × (r ≡ s)
 front_once known ts (by_name w) (by_name v) r s h k =
@@ -224,9 +210,6 @@ one_more known t ts rest a more comma front h =
 pub record Gathers (known : List Named) (whole : List Read) (before now : List Argument) (back : List Read) : Type 0 where
   pub forth : (all : List Argument) → IsRest known whole all → (more : List Argument) × IsRest known back more
   pub back_from : (more : List Argument) → IsRest known back more → (all : List Argument) × (now ++ more ≡ before ++ all) × IsRest known whole all
-
-pub gathers_none : (known : List Named) (whole : List Read) (before : List Argument) → Gathers known whole before before whole
-gathers_none known whole before = record { forth = λ all h. (all, h); back_from = λ more h. (more, refl, h) }
 
 -- one argument more
 gathers_one : (known : List Named) (whole : List Read) (before now next : List Argument) (t : Read) (ts rest : List Read) (a : Argument)
@@ -320,39 +303,17 @@ arguments_front known ts (a ∷ more) some h = (
   record { tokens_are = refl; are_arguments = h.are_arguments.1; are_known = h.are_known.1 },
 )
 
-pub no_front_arguments : (known : List Named) (ts : List Read) → (ts ≡ [] → ⊥) → HasNoFront known ts → HasNoArguments known ts
-no_front_arguments known ts some none all h = (let first = arguments_front known ts all some h in none first.0 (further_arguments first.1) first.3)
-
 pub no_rest_arguments : (known : List Named) (ts rest : List Read) (a : Argument) → (ts ≡ [] → ⊥) → IsFront known ts a rest → HasNoRest known rest → HasNoArguments known ts
 no_rest_arguments known ts rest a some front none all h =
     let first = arguments_front known ts all some h in
     let once = front_once known ts first.0 a (further_arguments first.1) rest first.3 front in
     none first.1 (subst (λ (x : List Read). IsRest known x first.1) once.1 first.4)
 
-pub front_arguments : (known : List Named) (ts rest : List Read) (a : Argument) (more all : List Argument) → IsFront known ts a rest → IsRest known rest more → all ≡ a ∷ more → IsArguments known ts all
-front_arguments known ts rest a more all front h e =
-    subst (IsArguments known ts) (sym e)
-    (record {
-      tokens_are = front.tokens_are ∙ ap (λ (x : List Read). argument_tokens a ++ x) h.tokens_are;
-      are_arguments = (front.is_argument, h.are_arguments);
-      are_known = (front.is_known, h.are_known);
-    })
-
 pub words_apart : APPLY ≡ GIVES → ⊥
 words_apart e = (let n : ◌≡◌ {A = ℕ} 97 103 = ap (λ (w : List ℕ). get_or w 0 0) e in absurd (omega (arith, n)))
 
 pub word_text : {w v : List ℕ} → word w ≡ word v → w ≡ v
 word_text e = ap (λ (t : Read). t.1) e
-
-pub no_applied : (known : List Named) (ts : List Read) → HasNoArguments known ts → HasNoLast known (spec.apply_word ∷ ts)
-no_applied known ts none no_last h = h
-no_applied known ts none (applied args) h =
-    none args (record { tokens_are = cons_tail h.0.tokens_are; are_arguments = h.0.well_written; are_known = h.1 })
-no_applied known ts none (given_out names) h = words_apart (word_text (cons_head h.0.tokens_are))
-
-pub is_applied : (known : List Named) (ts : List Read) (args : List Argument) → IsArguments known ts args → IsLast known (spec.apply_word ∷ ts) (applied args)
-is_applied known ts args h =
-    (record { tokens_are = ap (λ (x : List Read). spec.apply_word ∷ x) h.tokens_are; well_written = h.are_arguments }, h.are_known)
 
 pub no_word : (known : List Named) (t : Read) (ts : List Read) → (t ≡ spec.apply_word → ⊥) → (t ≡ spec.gives_word → ⊥) → HasNoLast known (t ∷ ts)
 no_word known t ts a g no_last h = h

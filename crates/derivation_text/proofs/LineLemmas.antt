@@ -1,10 +1,7 @@
 -- A line with a judgment, from its parts and what these make.
-use Rattle.std.proofs.Common.{◌≡◌, ℕ, Bool, true, false, List, ◌∷◌, ◌++◌, map, refl, ap, ◌∙◌, sym, subst, Some, None, option_map, cond, nat_lt, codes, true≢false}
-use Rattle.std.specs.Prelude.{Option, is_some, MatchOption, Result, Ok, Err, IfOk, not, ◌+◌}
-use Rattle.std.proofs.lemmas.List.Recursion.{is_position_or_len}
+use Rattle.std.proofs.Common.{◌≡◌, ℕ, List, ◌∷◌, ◌++◌, refl, ap, ◌∙◌, sym, subst, Some, None, codes}
+use Rattle.std.specs.Prelude.{Option, MatchOption, Result, Ok, Err, IfOk, ◌+◌}
 use Rattle.rule_schemes.specs.Said.{Said, a_judgment}
-use Rattle.std.specs.List.{position, position_or_len}
-use Rattle.std.proofs.lemmas.List.{length-map}
 use Rattle.rule_schemes.specs.Rules.{Theory, JudgmentValue, JudgmentScheme, IsJudgment}
 use Rattle.rule_schemes.specs.Derivation.{Derivation}
 use Rattle.rule_schemes.specs.Reading.{Token, word}
@@ -12,7 +9,7 @@ use Rattle.rule_schemes.specs.AtValue.{judgment_at}
 use Rattle.derivation_text.specs.Bare.{HasNoContexts}
 use Rattle.derivation_text.specs.Forms.{Says, node_line, AreNames, on_tokens, colon}
 use Rattle.derivation_text.specs.Valid.{NamesTree, MakesTree, nothing_around, tree_named, rule_named, IsMade}
-use Rattle.derivation_text.specs.Found.{HasParts, HasNoParts, IsPartsTree, HasNoPartsTree, HasNoNamedTree, HasValue, HasNoJudgment, ReadsJudgment, cited_trees}
+use Rattle.derivation_text.specs.Found.{HasParts, IsPartsTree, HasNoPartsTree, HasNoNamedTree, HasValue, HasNoJudgment, ReadsJudgment, cited_trees}
 use Rattle.derivation_text.specs.Making.{HasNoTree}
 use Rattle.derivation_text.specs.declared.derivs.Named.{Named}
 use Rattle.derivation_text.proofs.NodeLemmas.{parts_once}
@@ -67,15 +64,6 @@ parts_tree th known name form r cited tree names makes =
       cited = cited_to known cited makes.trees names makes.earlier;
       makes = makes.makes;
     }
-
-pub no_parts_named : (th : Theory) (known : List Named) (ts : List Token) → HasNoParts ts → HasNoNamedTree th known ts
-no_parts_named th known ts none one h = none one.name h.form h.rule (on_tokens h.cited) (says_parts ts one.name h.form h.rule h.cited h.says)
-
-pub old_name : (th : Theory) (known : List Named) (ts : List Token) (name : List ℕ) (form : List Token) (r : List ℕ) (rest : List Token) → HasParts ts name form r rest
-    → (tree_named known name ≡ None → ⊥) → HasNoNamedTree th known ts
-old_name th known ts name form r rest parts old one h =
-    let once = parts_once (says_parts ts one.name h.form h.rule h.cited h.says) parts in
-    old (subst (λ (w : List ℕ). tree_named known w ≡ None) once.0 h.valid.new)
 
 pub no_tree_named : (th : Theory) (known : List Named) (ts : List Token) (name : List ℕ) (form : List Token) (r : List ℕ) (rest : List Token) → HasParts ts name form r rest
     → HasNoPartsTree th known form r rest → HasNoNamedTree th known ts

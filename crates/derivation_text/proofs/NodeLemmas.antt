@@ -1,12 +1,13 @@
 -- The parts of a line with a judgment are found by its first reserved word, and are the only ones.
-use Rattle.std.proofs.Common.{◌≡◌, ◌≢◌, ◌↔◌, ◌<◌, ◌+◌, ℕ, ◌==◌, Bool, true, false, ◌&&◌, IsTrue, IsFalse, List, [], ◌∷◌, ◌++◌, length, map, refl, ap, ◌∙◌, sym, subst, arith, codes, true≢false}
+use Rattle.std.proofs.Common.{◌≡◌, ◌≢◌, ◌↔◌, ◌<◌, ◌+◌, ℕ, ◌==◌, Bool, true, false, ◌&&◌, IsTrue, IsFalse, List, [], ◌∷◌, ◌++◌, length, refl, ap, ◌∙◌, sym, subst, arith, codes, true≢false}
 use Rattle.std.proofs.lemmas.Bool.{eqb-true}
 use Rattle.std.proofs.lemmas.Slice.Eq.{bytes_eq-Decides}
 use Rattle.std.specs.Str.{bytes_eq}
 use Rattle.std.specs.List.{AllByRecursion}
 use Rattle.rule_schemes.specs.Reading.{Token, word}
-use Rattle.derivation_text.specs.Forms.{is_reserved, is_name, is_own_name, is_reserved_token, colon}
-use Rattle.derivation_text.specs.Found.{is_name_token, is_own_name_token, StopsForm, IsCut, HasParts, HasFormParts, HasNoParts, HasNoFormParts}
+use Rattle.outline_reader.specs.Sorts.{is_reserved}
+use Rattle.derivation_text.specs.Forms.{is_name, is_reserved_token}
+use Rattle.derivation_text.specs.Found.{is_name_token, StopsForm, IsCut, HasParts, HasFormParts, HasNoFormParts}
 use Rattle.binding_terms.proofs.Lists.{cons_head, cons_tail}
 
 abbrev NoneReserved : List Token → Type 0
@@ -72,50 +73,6 @@ pub name_is_word : (t : Token) → IsTrue (is_name_token t) → (t ≡ word t.1)
 name_is_word t h =
     let kind : t.0 ≡ 0 = zero_kind t.0 (and_left (t.0 == 0) (is_name t.1) h) in
     (λ i. (kind i, t.1), and_right (t.0 == 0) (is_name t.1) h)
-
-pub own_name_is_word : (t : Token) → IsTrue (is_own_name_token t) → (t ≡ word t.1) × IsTrue (is_own_name t.1)
-own_name_is_word t h =
-    let kind : t.0 ≡ 0 = zero_kind t.0 (and_left (t.0 == 0) (is_own_name t.1) h) in
-    (λ i. (kind i, t.1), and_right (t.0 == 0) (is_own_name t.1) h)
-
-pub makes_form_parts : (ts front back : List Token) (a b c : Token) → IsCut ts front (a ∷ (b ∷ (c ∷ back))) → front ≢ [] → a ≡ word (codes "by") → b ≡ word (codes "rule")
-    → is_name_token c ≡ true → HasFormParts ts front c.1 back
-makes_form_parts ts front back a b c cut some ea eb h =
-    let name = name_is_word c h in
-    let ec : c ≡ word c.1 = name.0 in
-    record {
-      tokens_are = cut.parts ∙ ap (λ (ys : List Token). front ++ ys) (λ i. ea i ∷ (eb i ∷ (ec i ∷ back)));
-      form_is = record { some = some; none_reserved = cut.none_reserved };
-      rule_is = name.1;
-    }
-
-pub no_parts_two : (ts : List Token) → length ts < 2 → HasNoParts ts
-no_parts_two ts short name form r rest h =
-    let e : length ts ≡ length (form ++ (word (codes "by") ∷ (word (codes "rule") ∷ (word r ∷ rest)))) + 2 = ap length h.tokens_are ∙ omega arith in
-    omega arith
-
-pub no_parts_own : (a b : Token) (ts : List Token) → is_own_name_token a ≡ false → HasNoParts (a ∷ (b ∷ ts))
-no_parts_own a b ts n name form r rest h =
-    clash (subst (λ (t : Token). IsTrue (is_own_name_token t)) (sym (cons_head h.tokens_are)) h.own) n
-
-pub no_parts_colon : (a b : Token) (ts : List Token) → b ≢ colon → HasNoParts (a ∷ (b ∷ ts))
-no_parts_colon a b ts n name form r rest h = n (cons_head (cons_tail h.tokens_are))
-
-pub no_parts_after : (a b : Token) (ts : List Token) → HasNoFormParts ts → HasNoParts (a ∷ (b ∷ ts))
-no_parts_after a b ts none name form r rest h =
-    none form r rest (record { tokens_are = cons_tail (cons_tail h.tokens_are); form_is = h.form_is; rule_is = h.rule_is })
-
-pub makes_parts : (a b : Token) (ts form : List Token) (r : List ℕ) (rest : List Token) → is_own_name_token a ≡ true → b ≡ colon → HasFormParts ts form r rest
-    → HasParts (a ∷ (b ∷ ts)) a.1 form r rest
-makes_parts a b ts form r rest h eb parts =
-    let name = own_name_is_word a h in
-    let ea : a ≡ word a.1 = name.0 in
-    record {
-      tokens_are = λ i. ea i ∷ (eb i ∷ parts.tokens_are i);
-      own = name.1;
-      form_is = parts.form_is;
-      rule_is = parts.rule_is;
-    }
 
 pub not_when : {b : Bool} {P : Type 0} → (IsTrue b ↔ P) → b ≡ false → P → ⊥
 not_when both f p = true≢false (sym (both.1 p) ∙ f)

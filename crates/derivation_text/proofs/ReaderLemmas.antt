@@ -1,6 +1,6 @@
 -- The lines of a text, one after another.
-use Rattle.std.proofs.Common.{◌≡◌, ◌↔◌, ◌≤◌, ◌+◌, ◌-◌, ℕ, take, drop, length-drop, length-append, length-take-le, append_assoc, Bool, true, false, IsTrue, List, [], ◌∷◌, ◌++◌, length, map, refl, ap, ◌∙◌, sym, subst, arith, Some, None, slice_get, inl, inr, true≢false, zero, suc}
-use Rattle.std.specs.Prelude.{Option, not, MatchOption}
+use Rattle.std.proofs.Common.{◌≡◌, ◌↔◌, ◌≤◌, ◌+◌, ◌-◌, ℕ, take, drop, length-drop, length-append, length-take-le, append_assoc, Bool, true, false, IsTrue, List, [], ◌∷◌, ◌++◌, length, map, refl, ap, ◌∙◌, sym, subst, arith, Some, slice_get, inl, inr, true≢false, zero, suc}
+use Rattle.std.specs.Prelude.{not}
 use Rattle.std.proofs.Math.Seq.{drop-append_seam}
 use Rattle.std.proofs.lemmas.List.{take_all, take-append-drop}
 use Rattle.proof_lexer.specs.View.{token_view}
@@ -97,14 +97,6 @@ module _ (th : Theory) (bare : HasNoContexts th) (so_far : IsSystemSoFar th) whe
   names_derive known ts one all h =
       all_push (λ x. Derives th x.tree) known one all
       (made_derives h.valid.number _ h.valid.trees one.tree (cited_derive th known h.cited h.valid.trees all h.valid.earlier) h.valid.makes)
-
-pub reaches_none : (th : Theory) (all : List Line) → Reaches th all [] all
-reaches_none th all c = (λ v. v, λ v. v)
-
-pub reaches_end : (th : Theory) (all lines : List Line) (known : List Named) → Reaches th all known lines → lines ≡ [] → AreValid th nothing_around [] all (record { named = known; last = no_last })
-reaches_end th all lines known reach e =
-    let c : Contents = record { named = known; last = no_last } in
-    (reach c).1 (subst (λ (x : List Line). AreValid th nothing_around known x c) (sym e) (refl, refl))
 
 pub reaches_last : (th : Theory) (all lines rest : List Line) (n : ℕ) (ts : List Token) (known : List Named) (last : Last) → Reaches th all known lines → lines ≡ (n, ts) ∷ rest → rest ≡ []
     → IsLast known ts last → AreValid th nothing_around [] all (record { named = known; last = last })

@@ -6,35 +6,32 @@ use Rattle.std.proofs.lemmas.Option.{slice_get-map, slice_get-get_or}
 use Rattle.rule_schemes.specs.View.{rule}
 use Rattle.rule_schemes.specs.declared.rule.RuleScheme.{RuleScheme}
 use Rattle.binding_terms.specs.Signature.{Signature, slots}
-use Rattle.binding_terms.specs.Numbered.{AnyByRecursion, AllNumbered}
-use Rattle.scheme_terms.specs.Forms.{SchemeEntry, Names, ContextValue, Instance}
+use Rattle.binding_terms.specs.Numbered.{AnyByRecursion}
+use Rattle.scheme_terms.specs.Forms.{Names, ContextValue, Instance}
 use Rattle.scheme_terms.specs.Context.{IsValue}
 use Rattle.scheme_terms.specs.Instance.{IsKnownPlace}
-use Rattle.scheme_terms.specs.SchemeScope.{AreSchemes, entry_variables, IsSchemeContext, AreExplicitEntries}
+use Rattle.scheme_terms.specs.SchemeScope.{AreSchemes, entry_variables, IsSchemeContext, IsRoot, AreExplicitEntries}
 use Rattle.scheme_terms.specs.View.{instance}
 use Rattle.scheme_terms.specs.declared.scheme.Inst.{Inst}
 use Rattle.scheme_terms.specs.declared.scheme.MetaDecl.{MetaDecl}
 use Rattle.scheme_terms.specs.declared.scheme.Root.{Root}
-use Rattle.scheme_terms.specs.declared.scheme.Root.TheVariants.{Closed, Empty, Whole}
+use Rattle.scheme_terms.specs.declared.scheme.Root.TheVariants.{Closed}
 use Rattle.binding_terms.specs.declared.grammar.CatId.{CatId}
 use Rattle.rule_schemes.specs.declared.rule.Judgment.{Judgment}
 use Rattle.rule_schemes.specs.Rules.{JudgmentScheme, JudgmentValue, Rule, Theory, IsJudgment, IsJudgmentScheme, IsRootOf, IsAssumption, IsOneEntry, IsItsEntry, IsSystemSoFar, RuleFits, StrictInJudgment, StrictInRule, argument_slots, root_of, rule_names}
 use Rattle.rule_schemes.specs.Derivation.{Derivation, node, leaf, judgment, Subtrees, Derives, IsNodeOf, IsLeaf, AreInstances}
 use Rattle.rule_schemes.proofs.DerivationLemmas.{derives_a_judgment}
 use Rattle.derivation_check.specs.Parts.{subtrees_of}
-use Rattle.scheme_match.specs.Matching.{judgments, Matching, ArgumentsFit, MakesEqual, IsMatch, IsOnlyMatch, StrictInPair, AreStrict}
+use Rattle.scheme_match.proofs.Fitting.{forms_fit}
+use Rattle.scheme_match.specs.Matching.{judgments, Matching, JudgmentsFit, MakesEqual, IsMatch, IsOnlyMatch, StrictInPair, AreStrict}
 use Rattle.derivation_text.specs.Bare.{HasNoContexts}
 use Rattle.derivation_text.specs.Making.{premise_pairs, with_premises, PremiseFits, HasNoTree}
 use Rattle.derivation_text.specs.Valid.{IsMade, nothing_around}
-use Rattle.binding_terms.proofs.Lists.{all_found, match_same, numbered_weaker, zip_empty}
+use Rattle.binding_terms.proofs.Lists.{all_found, numbered_weaker, zip_empty}
+use Rattle.rule_schemes.proofs.PlainLemmas.{is_closed}
 
 abbrev no_value : ContextValue
 no_value = nothing_around.value
-
-root_closed : (root : Root) → IsRootOf None root → root ≡ Closed
-root_closed Closed h = refl
-root_closed (Empty c) h = absurd h
-root_closed (Whole c) h = absurd h
 
 any_pair : (m : ℕ) (ps : List JudgmentScheme) (ds : List Derivation) → length ps ≡ length ds → AnyByRecursion (StrictInJudgment m) ps
     → AnyByRecursion (StrictInPair m) (premise_pairs ps ds)
@@ -70,7 +67,7 @@ module _ (th : Theory) (bare : HasNoContexts th) where
   pub form_closed : (names : Names) (j : JudgmentScheme) → IsJudgmentScheme th names j → (j.context.root ≡ Closed) × (j.context.entries ≡ [])
   form_closed names j h =
       let at = all_found th.judgments j.judgment bare.judgments h in
-      let root : j.context.root ≡ Closed = root_closed j.context.root (subst (λ (ctx : Option CatId). IsRootOf ctx j.context.root) at.1 at.2.0) in
+      let root : j.context.root ≡ Closed = is_closed j.context.root (subst (λ (ctx : Option CatId). IsRootOf ctx j.context.root) at.1 at.2.0) in
       (root, subst (λ (r : Root). AreExplicitEntries th.sig names r j.context.entries) root at.2.1)
 
   pub value_closed : (v : JudgmentValue) → IsJudgment th v → v.context ≡ no_value
@@ -79,30 +76,17 @@ module _ (th : Theory) (bare : HasNoContexts th) where
       let value = subst (λ (ctx : Option CatId). IsValue th.sig (root_of ctx) v.context) at.1 at.2.0 in
       λ i. record { cat = value.0 i; entries = value.1 i }
 
-  pub arguments_fit : (names : Names) (j : JudgmentScheme) (v : JudgmentValue) → names.knowns ≡ [] → IsJudgmentScheme th names j → IsJudgment th v
-      → j.judgment ≡ v.judgment → ArgumentsFit th.sig names.metas j v
-  arguments_fit names j v none h k e =
-      let there : MatchOption (slice_get th.judgments v.judgment) ⊥ (FormFits names j) = subst (λ (n : ℕ). MatchOption (slice_get th.judgments n) ⊥ (FormFits names j)) e h in
-      let at = match_same (slice_get th.judgments v.judgment) there k in
-      let form = at.0 in
-      record {
-        names = names;
-        metas_are = refl;
-        knowns_are = none;
-        places = argument_slots form.ctx (slots form.items);
-        schemes = subst (λ (es : List SchemeEntry). AreSchemes th.sig names (entry_variables th.sig [] es) (argument_slots form.ctx (slots form.items)) j.args) (form_closed names j h).1 at.1.2;
-        values = at.2.1;
-      }
+  pub judgments_fit : (names : Names) (j : JudgmentScheme) (v : JudgmentValue) → IsJudgmentScheme th names j → IsJudgment th v
+      → j.judgment ≡ v.judgment → JudgmentsFit th.sig names.metas j v
+  judgments_fit names j v h = forms_fit th names j v (subst (IsRoot th.sig) (sym (form_closed names j h).0) tt) h
 
-  pub premises_fit : (so_far : IsSystemSoFar th) (names : Names) (ps : List JudgmentScheme) (ds : List Derivation) → names.knowns ≡ [] → length ps ≡ length ds
+  pub premises_fit : (so_far : IsSystemSoFar th) (names : Names) (ps : List JudgmentScheme) (ds : List Derivation) → length ps ≡ length ds
       → AllByRecursion (IsJudgmentScheme th names) ps → AllByRecursion (Derives th) ds → AllZip (PremiseFits th.sig names.metas) ps ds
-  premises_fit so_far names [] [] none e forms all = tt
-  premises_fit so_far names [] (d ∷ ds) none e forms all = absurd (omega arith)
-  premises_fit so_far names (p ∷ ps) [] none e forms all = absurd (omega arith)
-  premises_fit so_far names (p ∷ ps) (d ∷ ds) none e forms all = (
-    ((form_closed names p forms.0).1, arguments_fit names p (judgment d) none forms.0 (derives_a_judgment th d so_far all.0)),
-    premises_fit so_far names ps ds none (omega arith) forms.1 all.1,
-  )
+  premises_fit so_far names [] [] e forms all = tt
+  premises_fit so_far names [] (d ∷ ds) e forms all = absurd (omega arith)
+  premises_fit so_far names (p ∷ ps) [] e forms all = absurd (omega arith)
+  premises_fit so_far names (p ∷ ps) (d ∷ ds) e forms all =
+      (judgments_fit names p (judgment d) forms.0 (derives_a_judgment th d so_far all.0), premises_fit so_far names ps ds (omega arith) forms.1 all.1)
 
   not_assumption : (r : Rule) → RuleFits th r → IsAssumption r → ⊥
   not_assumption r fits h =
@@ -184,7 +168,7 @@ module _ (th : Theory) (bare : HasNoContexts th) where
       subst (λ (x : Signature). AllZip (PremiseFits x metas) ps ds) (sym s)
       (subst (λ (x : List MetaDecl). AllZip (PremiseFits th.sig x) ps ds) (sym m)
       (subst (λ (x : List JudgmentScheme). AllZip (PremiseFits th.sig r.metas) x ds) (sym p)
-      (premises_fit so_far (rule_names r) r.premises ds refl e fits.forms.premises all)))
+      (premises_fit so_far (rule_names r) r.premises ds e fits.forms.premises all)))
 
 -- the rule that is looked up
 pub rule_at : (rules items : List RuleScheme) (n : ℕ) (r : RuleScheme) → items ≡ rules → r ≡ get_or items n r → n < length rules → slice_get (map rule rules) n ≡ Some (rule r)
@@ -192,6 +176,6 @@ rule_at rules items n r e h within =
     slice_get-map rule rules n ∙ ap (option_map rule) (slice_get-get_or rules n r within ∙ ap Some (sym (h ∙ ap (λ (xs : List RuleScheme). get_or xs n r) e)))
 
 pub over_matching : (th : Theory) (j : JudgmentScheme) (v : JudgmentValue) (m : Matching) (metas : List MetaDecl) → m.sig ≡ th.sig → m.metas ≡ metas
-    → (j.judgment ≡ v.judgment → ArgumentsFit th.sig metas j v) → j.judgment ≡ v.judgment → ArgumentsFit m.sig m.metas j v
+    → (j.judgment ≡ v.judgment → JudgmentsFit th.sig metas j v) → j.judgment ≡ v.judgment → JudgmentsFit m.sig m.metas j v
 over_matching th j v m metas s e fit same =
-    subst (λ (x : Signature). ArgumentsFit x m.metas j v) (sym s) (subst (λ (x : List MetaDecl). ArgumentsFit th.sig x j v) (sym e) (fit same))
+    subst (λ (x : Signature). JudgmentsFit x m.metas j v) (sym s) (subst (λ (x : List MetaDecl). JudgmentsFit th.sig x j v) (sym e) (fit same))

@@ -3,46 +3,12 @@ use Rattle.std.specs.Prelude.{◌≡◌, ◌≢◌, ℕ, ◌+◌, ◌==◌, ◌&
 use Rattle.std.specs.List.{AllByRecursion}
 use Rattle.std.specs.Str.{bytes_eq}
 use Rattle.sy_base.specs.Tokens.{is_numeral}
+use Rattle.outline_reader.specs.Sorts.{is_reserved}
 use Rattle.rule_schemes.specs.Reading.{Token, word, punctuation}
-
--- the reserved words
-abbrev pub reserved_words : List (List ℕ)
-reserved_words =
-    codes "terminals" ∷
-    codes "syntax" ∷
-    codes "judgment" ∷
-    codes "assumes" ∷
-    codes "theorem" ∷
-    codes "lemma" ∷
-    codes "and" ∷
-    codes "forall" ∷
-    codes "exists" ∷
-    codes "by" ∷
-    codes "rule" ∷
-    codes "on" ∷
-    codes "induction" ∷
-    codes "hypothesis" ∷
-    codes "inversion" ∷
-    codes "contradiction" ∷
-    codes "case" ∷
-    codes "analysis" ∷
-    codes "is" ∷
-    codes "end" ∷
-    codes "proof" ∷
-    codes "use" ∷
-    codes "weakening" ∷
-    codes "exchange" ∷
-    codes "substitution" ∷
-    codes "unproved" ∷
-    codes "solve" ∷
-    codes "import" ∷ []
 
 abbrev pub is_among : List (List ℕ) → List ℕ → Bool
 is_among [] w = false
 is_among (v ∷ vs) w = bytes_eq v w || is_among vs w
-
-unfoldable pub is_reserved : List ℕ → Bool
-is_reserved w = is_among reserved_words w
 
 -- a word that is neither reserved nor a numeral
 unfoldable pub is_name : List ℕ → Bool

@@ -4,7 +4,7 @@ use Rattle.binding_terms.specs.Signature.{Signature}
 use Rattle.scheme_terms.specs.declared.scheme.MetaDecl.{MetaDecl}
 use Rattle.rule_schemes.specs.Rules.{JudgmentScheme, JudgmentValue, Theory}
 use Rattle.rule_schemes.specs.Derivation.{Derivation, judgment}
-use Rattle.scheme_match.specs.Matching.{Matched, judgments, Matching, ArgumentsFit}
+use Rattle.scheme_match.specs.Matching.{Matched, judgments, Matching, JudgmentsFit}
 use Rattle.derivation_text.specs.Valid.{IsMade}
 
 -- the premises with the judgments of the trees
@@ -17,7 +17,7 @@ with_premises m ps ds = record m { pairs = m.pairs ++ premise_pairs ps ds }
 
 -- what is owed of a premise and a tree
 abbrev pub PremiseFits : Signature → List MetaDecl → JudgmentScheme → Derivation → Type 0
-PremiseFits sig metas p d = (p.context.entries ≡ []) × (p.judgment ≡ (judgment d).judgment → ArgumentsFit sig metas p (judgment d))
+PremiseFits sig metas p d = p.judgment ≡ (judgment d).judgment → JudgmentsFit sig metas p (judgment d)
 
 abbrev pub HasNoTree : Theory → (rule : ℕ) → JudgmentValue → List Derivation → Type 0
 HasNoTree th r j ds = (d : Derivation) → IsMade th r j ds d → ⊥

@@ -8,9 +8,9 @@ ghost use Rattle.derivation_text.specs.Contents.{kept_token, argument};
 ghost use Rattle.derivation_text.specs.declared.derivs.Named.{Named as OfNamed};
 
 use crate::derivs::{Argument, Kept, Named};
-use crate::names::{known_name, text};
+use crate::names::known_name;
 use crate::signs::{is_punctuation, is_reserved_token};
-use binding_terms::NoMemory;
+use binding_terms::{NoMemory, Text};
 use proof_lexer::Token;
 use sqlite_items::Items;
 use std::alloc::Global;
@@ -20,7 +20,7 @@ fn keep(alloc: Global, t: &Token<'_>) -> Result<Kept, NoMemory>
 {
     Ok(Kept {
         kind: t.kind,
-        text: text(alloc, t.text)?,
+        text: Text::of(alloc, t.text.as_bytes())?,
     })
 }
 

@@ -1,8 +1,8 @@
-ghost use Rattle.std.specs.Prelude.{◌≡◌, [], ◌∷◌, ◌++◌, ◌≤◌, map, drop, length, IfOk, OnOk, Some, option_map, unwrap_or};
+ghost use Rattle.std.specs.Prelude.{◌≡◌, [], map, drop, IfOk, OnOk, Some, option_map, unwrap_or};
 ghost use Rattle.std.specs.Option.{option_copied};
 ghost use Rattle.binding_terms.specs.Signature.{is_empty_form};
 ghost use Rattle.scheme_terms.specs.View.{context_value};
-ghost use Rattle.rule_schemes.specs.Printing.{category_name, empty_form, entries_tokens, entry_tokens, first, laid_out, no_labels, value_tokens, value_variables, variable_word, with_entries, with_entry};
+ghost use Rattle.rule_schemes.specs.Printing.{category_name, empty_form, entries_tokens, entry_tokens, first, laid_out, no_labels, value_tokens, variable_word, with_entries, with_entry};
 ghost use Rattle.derivation_text.specs.Page.{written};
 ghost use Rattle.derivation_text.specs.Text.{after_root, context_from};
 ghost use Rattle.derivation_text.specs.View.{entry_scheme, plain_entries, root_value, terms_tokens, variables};

@@ -1,5 +1,5 @@
 //! The inputs that a text gives for a statement.
-ghost use Rattle.std.specs.Prelude.{◌≡◌, ◌≤◌, ◌↔◌, ◌-◌, ◌^◌, IsTrue, IfOk, MatchOption, List, map, min, option_map};
+ghost use Rattle.std.specs.Prelude.{◌≡◌, ◌≤◌, ◌↔◌, ◌-◌, ◌^◌, IsTrue, IfOk, MatchOption, map, min, option_map};
 ghost use Rattle.std.specs.List.{AllByRecursion};
 ghost use Rattle.rule_schemes.specs.Derivation.{sizes, height};
 ghost use Rattle.rule_schemes.specs.Rules.{Theory};

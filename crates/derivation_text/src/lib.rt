@@ -21,8 +21,6 @@ mod same;
 mod signs;
 mod split;
 mod term;
-#[cfg(test)]
-mod tests;
 mod words;
 mod worked;
 

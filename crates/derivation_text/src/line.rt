@@ -1,15 +1,12 @@
 //! A line with a judgment.
-ghost use Rattle.std.specs.Prelude.{◌≡◌, ◌<◌, IfOk, MatchOption, map, None, List, length, IfSome};
+ghost use Rattle.std.specs.Prelude.{◌≡◌, ◌<◌, IfOk, MatchOption, map, None, length, IfSome};
 ghost use Rattle.std.specs.List.{position};
 ghost use Rattle.std.specs.Str.{bytes_eq};
-ghost use Rattle.std.specs.List.{AllByRecursion};
-ghost use Rattle.rule_schemes.specs.Derivation.{Derives};
 ghost use Rattle.rule_schemes.specs.View.{theory};
 ghost use Rattle.term_reader.specs.View.{token};
 ghost use Rattle.derivation_text.specs.Bare.{HasNoContexts};
-ghost use Rattle.derivation_text.specs.Found.{HasParts, AllDerive, IsPartsTree, HasNoPartsTree, HasNoNamedTree};
+ghost use Rattle.derivation_text.specs.Found.{AllDerive, IsPartsTree, HasNoPartsTree, HasNoNamedTree};
 ghost use Rattle.derivation_text.specs.Valid.{nothing_around, rule_named, NamesTree};
-ghost use Rattle.derivation_text.specs.declared.derivs.Named.{Named as OfNamed};
 
 use crate::cited::{cited_trees, tree_named};
 use crate::derivs::Named;
@@ -64,14 +61,6 @@ fn tree_of_parts(
     }
 }
 
-fn text(alloc: Global, word: &str) -> Result<Text, NoMemory>
-    ensures { IfOk result (λ text. text ≡ word.now) }
-{
-    let mut text = Text::new(alloc);
-    text.push(word.as_bytes())?;
-    Ok(text)
-}
-
 /// The name and the tree of a line with a judgment, if the tokens are a valid one.
 pub fn named_tree(
     alloc: Global,
@@ -93,7 +82,7 @@ pub fn named_tree(
     }
     match tree_of_parts(alloc, sys, known, &node.parts)? {
         Some(tree) => Ok(Some(Named {
-            name: text(alloc, node.name)?,
+            name: Text::of(alloc, node.name.as_bytes())?,
             tree,
         })),
         None => Ok(None),

@@ -1,5 +1,5 @@
 //! The tree of a judgment by a rule.
-ghost use Rattle.std.specs.Prelude.{◌≡◌, ◌↔◌, ◌<◌, IsTrue, IfOk, OnOk, MatchOption, [], length, map, slice_get};
+ghost use Rattle.std.specs.Prelude.{◌≡◌, ◌↔◌, ◌<◌, IsTrue, IfOk, OnOk, MatchOption, [], length, map};
 ghost use Rattle.std.specs.List.{AllByRecursion, AllZip};
 ghost use Rattle.rule_schemes.specs.Rules.{RuleFits, IsJudgment};
 ghost use Rattle.rule_schemes.specs.Plain.{HasPlainNames};

@@ -11,15 +11,6 @@ use proof_lexer::Token;
 use sqlite_items::Items;
 use std::alloc::Global;
 
-/// A copy of a word.
-pub fn text(alloc: Global, word: &str) -> Result<Text, NoMemory>
-    ensures { IfOk result (λ text. text ≡ word.now) }
-{
-    let mut text = Text::new(alloc);
-    text.push(word.as_bytes())?;
-    Ok(text)
-}
-
 /// The name of an earlier line.
 pub fn known_name(alloc: Global, known: &[Named], t: &Token<'_>) -> Result<Option<Text>, NoMemory>
     ensures { IfOk result (λ name. name ≡ spec.known_name known.now (token t.now)) }
@@ -28,7 +19,7 @@ pub fn known_name(alloc: Global, known: &[Named], t: &Token<'_>) -> Result<Optio
         return Ok(None);
     }
     match tree_named(known, t.text.as_bytes()) {
-        Some(_) => Ok(Some(text(alloc, t.text)?)),
+        Some(_) => Ok(Some(Text::of(alloc, t.text.as_bytes())?)),
         None => Ok(None),
     }
 }

@@ -1,5 +1,5 @@
 //! The parts of a line with a judgment.
-ghost use Rattle.std.specs.Prelude.{◌≡◌, ◌∷◌, MatchOption, map, List, ℕ};
+ghost use Rattle.std.specs.Prelude.{◌∷◌, MatchOption, map, List};
 ghost use Rattle.rule_schemes.specs.Reading.{Token as Read};
 ghost use Rattle.term_reader.specs.View.{token};
 ghost use Rattle.derivation_text.specs.Found.{IsCut, HasParts, HasNoParts, HasFormParts, HasNoFormParts};

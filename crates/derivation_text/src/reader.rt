@@ -1,5 +1,5 @@
 //! Reads derivation texts.
-ghost use Rattle.std.specs.Prelude.{◌≡◌, ◌<◌, ◌-◌, ◌^◌, IfOk, MatchOption, map, length, [], List};
+ghost use Rattle.std.specs.Prelude.{◌≡◌, ◌<◌, ◌-◌, ◌^◌, IfOk, MatchOption, map, length, []};
 ghost use Rattle.rule_schemes.specs.View.{theory};
 ghost use Rattle.proof_lexer.specs.View.{token_view};
 ghost use Rattle.term_reader.specs.View.{token};

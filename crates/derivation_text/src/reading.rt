@@ -1,5 +1,5 @@
 //! The judgment that the form of a line reads as.
-ghost use Rattle.std.specs.Prelude.{◌≡◌, IfOk, MatchOption, [], ◌∷◌, map};
+ghost use Rattle.std.specs.Prelude.{◌≡◌, IfOk, MatchOption, map};
 ghost use Rattle.binding_terms.specs.View.{tree};
 ghost use Rattle.scheme_terms.specs.Instance.{instance_of};
 ghost use Rattle.scheme_terms.specs.View.{scheme, instance};

@@ -1,43 +1,12 @@
 //! Tests of tokens.
-ghost use Rattle.std.specs.Prelude.{◌≡◌, ◌↔◌, IsTrue, ◌∷◌, [], codes, map};
+ghost use Rattle.std.specs.Prelude.{◌≡◌, ◌↔◌, IsTrue, map};
 ghost use Rattle.rule_schemes.specs.Reading.{punctuation, word};
 ghost use Rattle.term_reader.specs.View.{token};
 ghost use Rattle.derivation_text.specs.Forms as forms;
 ghost use Rattle.derivation_text.specs.Found as found;
 
+use outline_reader::is_reserved;
 use proof_lexer::{Kind, Token, is_numeral};
-
-/// The reserved words.
-const RESERVED: [&[u8]; 28] = [
-    b"terminals",
-    b"syntax",
-    b"judgment",
-    b"assumes",
-    b"theorem",
-    b"lemma",
-    b"and",
-    b"forall",
-    b"exists",
-    b"by",
-    b"rule",
-    b"on",
-    b"induction",
-    b"hypothesis",
-    b"inversion",
-    b"contradiction",
-    b"case",
-    b"analysis",
-    b"is",
-    b"end",
-    b"proof",
-    b"use",
-    b"weakening",
-    b"exchange",
-    b"substitution",
-    b"unproved",
-    b"solve",
-    b"import",
-];
 
 /// The names that no derivation has.
 const KEPT: [&[u8]; 3] = [b"context", b"apply", b"gives"];
@@ -52,13 +21,6 @@ fn is_among(mut table: &[&[u8]], text: &[u8]) -> bool
         table = rest;
     }
     false
-}
-
-#[tactic(auto, unfolding(crate::specs::Forms::is_reserved))]
-fn is_reserved(text: &[u8]) -> bool
-    ensures { result ≡ forms.is_reserved text.now }
-{
-    is_among(&RESERVED, text)
 }
 
 #[tactic(auto, unfolding(crate::specs::Forms::is_name))]

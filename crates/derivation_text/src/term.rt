@@ -1,4 +1,4 @@
-ghost use Rattle.std.specs.Prelude.{◌≡◌, [], ◌∷◌, ◌++◌, map, take, drop, OnOk};
+ghost use Rattle.std.specs.Prelude.{◌≡◌, map, take, drop, OnOk};
 ghost use Rattle.binding_terms.specs.View.{tree, args_tree};
 ghost use Rattle.rule_schemes.specs.Printing.{grouped, no_labels, numbered, plain_parts, production, variable_word, term_tokens};
 ghost use Rattle.binding_terms.specs.Signature.{binders};

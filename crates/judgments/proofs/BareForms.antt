@@ -1,5 +1,5 @@
 -- The one readings of forms over bare judgments: their brackets, their scopes and their names.
-use Rattle.std.proofs.Common.{◌≡◌, ◌≢◌, ◌⊎◌, ℕ, zero, suc, List, [], ◌∷◌, length, map, inl, inr, refl, ap, ◌∙◌, sym, subst, arith, IsTrue, false, Some, None, slice_get, MatchOption, append-nil}
+use Rattle.std.proofs.Common.{◌≡◌, ℕ, zero, suc, List, [], ◌∷◌, length, map, inr, refl, ap, ◌∙◌, sym, subst, arith, IsTrue, false, Some, None, slice_get, MatchOption, append-nil}
 use Rattle.std.specs.Prelude.{not}
 use Rattle.std.specs.List.{AllByRecursion, AllZip}
 use Rattle.binding_terms.specs.Signature.{Signature, slots}
@@ -9,7 +9,7 @@ use Rattle.scheme_terms.specs.Forms.{Names}
 use Rattle.scheme_terms.specs.SchemeScope.{AreSchemes}
 use Rattle.scheme_terms.specs.declared.scheme.MetaDecl.{MetaDecl}
 use Rattle.scheme_terms.specs.declared.scheme.Root.TheVariants.{Closed}
-use Rattle.rule_schemes.specs.Reading.{Token, IsSpelling, ReadingScope, known_words, ReadsJudgment, without_context, with_context}
+use Rattle.rule_schemes.specs.Reading.{Token, IsSpelling, ReadingScope, known_words, ReadsJudgment, without_context, with_context, IsCategoryWord}
 use Rattle.rule_schemes.specs.Rules.{JudgmentScheme, Theory, IsJudgmentScheme, IsRootOf, argument_slots}
 use Rattle.rule_schemes.specs.Said.{Want, want_judgment, Written, a_judgment, ReadsWanted, reads_term, reads_judgment, reads_context}
 use Rattle.rule_schemes.specs.Statement.{OccursInJudgment}
@@ -23,7 +23,6 @@ use Rattle.judgments.specs.Named.{IsNamed, AreNamesOf}
 use Rattle.judgments.specs.Written.{settled, ReadsOnlyAs}
 use Rattle.judgments.proofs.ReadingLemmas.{form_tokens, form_schemes}
 use Rattle.judgments.proofs.WordsOfForms.{joined, word_joined, joined_word, HasNoBracket, has_no_parameters, parameters_none}
-use Rattle.user_grammar.specs.Names.{IsCategoryWord}
 use Rattle.binding_terms.proofs.Lists.{all_at, all_map}
 
 the_want : (want : Want) → slice_get (want_judgment ∷ []) 0 ≡ Some want → want ≡ want_judgment

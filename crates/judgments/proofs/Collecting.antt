@@ -3,16 +3,14 @@ use Rattle.std.proofs.Common.{◌≡◌, ◌≢◌, ◌⊎◌, ℕ, ◌+◌, ◌
 use Rattle.std.specs.Prelude.{flat_map}
 use Rattle.std.specs.List.{AllByRecursion}
 use Rattle.std.proofs.lemmas.List.{take_more}
-use Rattle.binding_terms.specs.Numbered.{AnyByRecursion}
 use Rattle.binding_terms.specs.declared.grammar.Cat.{Cat}
 use Rattle.scheme_terms.specs.SchemeScope.{AreDifferentNames}
 use Rattle.scheme_terms.specs.declared.scheme.MetaDecl.{MetaDecl}
-use Rattle.rule_schemes.specs.Reading.{Token, word}
+use Rattle.rule_schemes.specs.Reading.{Token, word, IsCategoryWord}
 use Rattle.rule_schemes.specs.NewNames.{AreInOrder, StandsBefore}
 use Rattle.judgments.specs.Spellings.{IsNoSpelling}
 use Rattle.judgments.specs.Collected.{IsAmong, StandsIn, IsCollected, AreCollected, IsKept, IsAdded, AreNext, AreCollectedFrom, IsLonger}
 use Rattle.judgments.proofs.Spelling.{none_spelled}
-use Rattle.user_grammar.specs.Names.{IsCategoryWord}
 use Rattle.binding_terms.proofs.Lists.{all_append, all_map, any_back, any_front, any_split, map_append}
 
 before_more : (a b : List ℕ) (ts us : List Token) → StandsBefore a b ts → StandsBefore a b (ts ++ us)

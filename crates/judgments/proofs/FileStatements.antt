@@ -9,14 +9,12 @@ use Rattle.proof_lexer.specs.declared.token.Token as of_token
 use Rattle.outline_reader.specs.Plain.{PlainPortion, PlainArgument, name_alone, plain_form, plain_input}
 use Rattle.outline_reader.specs.Views.{input_view}
 use Rattle.outline_reader.specs.declared.parts.InputText.{InputText}
-use Rattle.scheme_terms.specs.declared.scheme.Root.{Root}
-use Rattle.scheme_terms.specs.declared.scheme.Root.TheVariants.{Closed}
 use Rattle.rule_schemes.specs.Reading.{Token}
 use Rattle.rule_schemes.specs.Rules.{Theory}
 use Rattle.rule_schemes.specs.Statement.{Theorem}
 use Rattle.judgments.specs.Bare.{IsBareTheory, IsBareStatement}
 use Rattle.judgments.specs.Built.{IsBuiltTheorem, bare_text}
-use Rattle.judgments.specs.Statements.{IsAssumedRoot, IsTargetWord, IsTheoremOf, AreTargetsEven, AreStatementsOf}
+use Rattle.judgments.specs.Statements.{IsTargetWord, IsTheoremOf, AreTargetsEven, AreStatementsOf}
 use Rattle.judgments.specs.Texts.{TheoremText, as_read, written_input, theorem_in, theorems_in, groups_after}
 use Rattle.judgments.specs.Theory.{a_theorem, AreNamedApart}
 use Rattle.judgments.specs.Views.{input_text}
@@ -24,7 +22,7 @@ use Rattle.judgments.specs.Written.{WrittenInput, IsTarget}
 use Rattle.judgments.proofs.StatementLemmas.{AreGiven}
 use Rattle.judgments.proofs.StatementSays.{all, one_statement}
 use Rattle.judgments.proofs.SystemLemmas.{forms_read}
-use Rattle.binding_terms.proofs.Lists.{append_empty_back, zip_append, zip_both, zip_left, zip_map, zip_right, zip_split, zip_unique}
+use Rattle.binding_terms.proofs.Lists.{zip_append, zip_both, zip_left, zip_map, zip_right, zip_split, zip_unique}
 
 module _ {X : Type 0} (f : X → PlainPortion) (R : TheoremText → Theorem → Type 0) (xs : List X) where
   -- what is stated up to a portion, and what is left
@@ -32,9 +30,6 @@ module _ {X : Type 0} (f : X → PlainPortion) (R : TheoremText → Theorem → 
     pub done : List TheoremText
     pub left : done ++ theorems_in n (map f rest) ≡ theorems_in 0 (map f xs)
     pub stated : AllZip R done sts
-
-  pub nothing_stated : AreStated 0 xs []
-  nothing_stated = record { done = []; left = refl; stated = tt }
 
   module _ (i : ℕ) (d : X) (lt : i < length xs) (n : ℕ) where
     at_front : map f (drop i xs) ≡ f (get_or xs i d) ∷ map f (drop (i + 1) xs)
@@ -88,14 +83,6 @@ alone_stated th text other st e h = (subst (λ (t : TheoremText). IsBuiltTheorem
 pub alone_none : (th : Theory) (text other : TheoremText) → text ≡ other → ((st : Theorem) → IsBuiltTheorem th text st → ⊥) → (sts : List Theorem) → AllZip (IsBuiltTheorem th) (other ∷ []) sts → ⊥
 alone_none th text other e none [] h = h
 alone_none th text other e none (st ∷ sts) h = none st (subst (λ (t : TheoremText). IsBuiltTheorem th t st) (sym e) h.0)
-
-some_root : (sig : Rattle.binding_terms.specs.Signature.Signature) (t : PlainToken) (root : Root) → root ≡ Closed → IsAssumedRoot sig (Some t) root → ⊥
-some_root sig t root e h = subst (IsAssumedRoot sig (Some t)) e h
-
--- a theorem with a root has no bare statement, nor has one with targets or with an input that is a term
-pub rooted_none : (th : Theory) (t : PlainToken) (text : TheoremText) → text.assumes ≡ Some t → (sts : List Theorem) → AllZip (IsBuiltTheorem th) (text ∷ []) sts → ⊥
-rooted_none th t text e [] h = h
-rooted_none th t text e (st ∷ sts) h = some_root th.sig t st.scope.root ((h.0).1).root (subst (λ a. IsAssumedRoot th.sig a st.scope.root) e ((h.0).0).root)
 
 no_targets : (inputs : List WrittenInput) (ws : List (List ℕ)) (ns : List ℕ) → AllZip (IsTarget inputs) ws ns → ns ≡ [] → ws ≡ []
 no_targets inputs [] ns h e = refl
@@ -157,9 +144,6 @@ no_targets_at_all now (x ∷ xs) more e f = (let no : ⊥ = omega arith in absur
 pub some_target : {X : Type 0} (now : X → of_token.Token) (xs : List X) (more : List PlainArgument) → (length xs ≡ 0 → ⊥) → targets_of now xs more ≢ []
 some_target now [] more h e = h refl
 some_target now (x ∷ xs) more h e = (let never : name_alone (token_view (now x)) ∷ targets_of now xs more ≡ [] = e in cc)
-
-pub first_step_target : {X : Type 0} (now : X → of_token.Token) (xs : List X) (more : List PlainArgument) → (more ≡ [] → ⊥) → targets_of now xs more ≢ []
-first_step_target now xs more h e = h (append_empty_back (map name_alone (map token_view (map now xs))) more e)
 
 pub none_assumed : {X : Type 0} (now : X → of_token.Token) (o : Option X) → o ≡ None → option_map token_view (option_map now o) ≡ None
 none_assumed now o e = ap (λ p. option_map token_view (option_map now p)) e

@@ -12,8 +12,8 @@ use Rattle.scheme_terms.specs.declared.scheme.MetaDecl.{MetaDecl}
 use Rattle.scheme_terms.specs.declared.scheme.Root.{Root}
 use Rattle.scheme_terms.specs.declared.scheme.Root.TheVariants.{Closed}
 use Rattle.rule_schemes.specs.Reading.{Token}
-use Rattle.rule_schemes.specs.Refused.{Refuses, IsFirstUnstrict, IsFirstMisplaced, AssumeAlike, with_rule}
-use Rattle.rule_schemes.specs.Rules.{JudgmentScheme, Rule, Theory, rule_root, rule_names, IsJudgmentScheme, IsRootOf, argument_slots, IsBareName, StrictInRule, StrictInJudgment, IsAssumption, IsOneEntry, MayStand, assumed_by}
+use Rattle.rule_schemes.specs.Refused.{Refuses, IsFirstUnstrict, AssumeAlike, with_rule}
+use Rattle.rule_schemes.specs.Rules.{JudgmentScheme, Rule, Theory, rule_root, rule_names, IsJudgmentScheme, IsRootOf, argument_slots, IsBareName, StrictInRule, StrictInJudgment, IsAssumption, IsOneEntry, assumed_by}
 use Rattle.rule_schemes.specs.Statement.{OccursInJudgment}
 use Rattle.rule_schemes.specs.declared.fault.RuleFault.{RuleFault}
 use Rattle.rule_schemes.specs.declared.fault.RuleFault.TheVariants as faults
@@ -30,6 +30,7 @@ use Rattle.judgments.proofs.OneRule.{Says, rule_says, plain_for, kept_of, all_fr
 use Rattle.judgments.proofs.RuleLemmas.{closed_names, numbered, no_context_read, over_closed}
 use Rattle.judgments.proofs.StatementLemmas.{place_front, among_at}
 use Rattle.binding_terms.proofs.Lists.{any_back, any_front, any_map, any_split, found_some, zip_both, zip_right}
+use Rattle.rule_schemes.proofs.PlainLemmas.{closed_not_misplaced}
 
 -- where no name has parameters, each place of a name is strict
 module _ (sig : Signature) (names : Names) (plain : AllByRecursion (λ (d : MetaDecl). d.params ≡ []) names.metas) where
@@ -174,11 +175,6 @@ first_unstrict r n m [] h f = f
 first_unstrict r n m (d ∷ decls) h (inl f) = f.1 h.0
 first_unstrict r n m (d ∷ decls) h (inr f) = first_unstrict r (suc n) m decls h.1 f.1
 
-none_misplaced : (th : Theory) (r : Rule) (ps : List JudgmentScheme) (j : ℕ) → r.conclusion.context.root ≡ Closed → IsFirstMisplaced th r ps j → ⊥
-none_misplaced th r [] j e f = f
-none_misplaced th r (p ∷ ps) j e (inl f) = f.1 (subst (λ root. MayStand th root p.context.root p.judgment) (sym e) tt)
-none_misplaced th r (p ∷ ps) j e (inr f) = none_misplaced th r ps j e f.1
-
 none_alike : (r s : Rule) → r.conclusion.context.root ≡ Closed → AssumeAlike s r → ⊥
 none_alike r s e a = go (assumed_by s.conclusion.context.root s.conclusion.context.entries) a
   where
@@ -191,7 +187,7 @@ none_alike r s e a = go (assumed_by s.conclusion.context.root s.conclusion.conte
 pub never_refused : (th : Theory) (r : Rule) (fault : RuleFault) → IsGoodRule th r → Refuses th r fault → ⊥
 never_refused th r faults.BadConclusion h f = f h.bare
 never_refused th r (faults.NotStrict m) h f = first_unstrict r 0 m.0 r.metas h.strict f.first
-never_refused th r (faults.NeedsContext j) h f = none_misplaced (with_rule th r) r r.premises j.0 h.closed f.first
+never_refused th r (faults.NeedsContext j) h f = closed_not_misplaced (with_rule th r) r r.premises j.0 h.closed f.first
 never_refused th r (faults.TwoAssumptions q) h f = (let k = found_some (λ (s : Rule). AssumeAlike s r) th.rules q.0 f.alike in none_alike r k.0 h.closed k.1)
 never_refused th r faults.NoMemory h f = f
 

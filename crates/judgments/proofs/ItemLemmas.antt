@@ -14,7 +14,8 @@ use Rattle.outline_reader.specs.Plain.{PlainPortion}
 use Rattle.judgments.specs.Spellings.{IsNoSpelling}
 use Rattle.rule_schemes.specs.declared.rule.Judgment.{Judgment}
 use Rattle.user_grammar.specs.File.{listed_in, listed}
-use Rattle.user_grammar.specs.Names.{IsAmong, IsCategoryWord}
+use Rattle.rule_schemes.specs.Reading.{IsCategoryWord}
+use Rattle.user_grammar.specs.Names.{IsAmong}
 use Rattle.judgments.specs.Built.{IsBuiltJudgment}
 use Rattle.judgments.specs.Texts.{JudgmentText, judgment_in, judgments_in}
 use Rattle.judgments.specs.Theory.{IsTerminalToken, IsItemOf}

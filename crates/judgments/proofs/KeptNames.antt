@@ -1,7 +1,7 @@
 -- Names that are kept, and names that stand in what was read.
-use Rattle.std.proofs.Common.{◌≡◌, ◌≢◌, ◌↔◌, ◌⊎◌, ◌+◌, ◌<◌, ℕ, zero, suc, List, [], ◌∷◌, ◌++◌, length, take, drop, get_or, add-one, map, inl, inr, refl, ap, ◌∙◌, sym, subst, arith, Some, None, slice_get}
+use Rattle.std.proofs.Common.{◌≡◌, ◌≢◌, ◌⊎◌, ◌+◌, ◌<◌, ℕ, zero, suc, List, [], ◌∷◌, ◌++◌, length, take, get_or, map, inl, inr, refl, ap, ◌∙◌, sym, subst, arith, Some, None, slice_get}
 use Rattle.std.specs.List.{AllByRecursion}
-use Rattle.std.proofs.lemmas.List.{take_more, drop_more}
+use Rattle.std.proofs.lemmas.List.{take_more}
 use Rattle.binding_terms.specs.Numbered.{AnyByRecursion}
 use Rattle.scheme_terms.specs.SchemeScope.{AreDifferentNames}
 use Rattle.scheme_terms.specs.declared.scheme.MetaDecl.{MetaDecl}
@@ -145,14 +145,6 @@ any_at metas js m d differ g h =
     let k = read_any metas js d.name h in
     let same : k.0 ≡ m = one_place metas k.0 m k.1 d differ k.2 g k.3 in
     subst (λ i. AnyByRecursion (OccursInJudgment i) js) same k.4
-
--- names from a number on, one after another
-pub read_next : (metas : List MetaDecl) (i : ℕ) (w : List ℕ) (j : JudgmentScheme) (x : MetaDecl) (W : Type 0) → i < length metas → x ≡ get_or metas i x → (IsReadFrom i (drop i metas) w j ↔ W)
-    → (((x.name ≡ w) × OccursInJudgment i j) ⊎ IsReadFrom (i + 1) (drop (i + 1) metas) w j) ↔ W
-read_next metas i w j x W lt is h =
-    let e : drop i metas ≡ x ∷ drop (i + 1) metas = drop_more metas i x lt ∙ ap (λ y. y ∷ drop (i + 1) metas) (sym is) in
-    let here = subst (λ (l : List MetaDecl). IsReadFrom i l w j ↔ W) e h in
-    subst (λ n. (((x.name ≡ w) × OccursInJudgment i j) ⊎ IsReadFrom n (drop (i + 1) metas) w j) ↔ W) (sym (add-one i)) here
 
 -- names that are gone through one by one
 module _ (Kept Other : List ℕ → Type 0) (xs ys : List MetaDecl) (i : ℕ) (d x : MetaDecl) (lt : i < length xs) (is : x ≡ get_or xs i d) (h : AreKept Kept Other (take i xs) ys) (zs : List MetaDecl) where

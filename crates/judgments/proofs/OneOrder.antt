@@ -4,12 +4,11 @@ use Rattle.std.specs.List.{AllByRecursion}
 use Rattle.binding_terms.specs.Signature.{Signature}
 use Rattle.scheme_terms.specs.SchemeScope.{AreDifferentNames}
 use Rattle.scheme_terms.specs.declared.scheme.MetaDecl.{MetaDecl}
-use Rattle.rule_schemes.specs.Reading.{Token}
+use Rattle.rule_schemes.specs.Reading.{Token, IsCategoryWord, AreSpelledApart}
 use Rattle.rule_schemes.specs.NewNames.{AreInOrder, StandsBefore}
-use Rattle.judgments.specs.Spellings.{AreSpelledApart}
-use Rattle.judgments.specs.Collected.{IsAmong, StandsIn, IsCollected, AreCollected}
+use Rattle.judgments.specs.Collected.{IsAmong, IsCollected}
 use Rattle.judgments.proofs.WordsOfForms.{same_word}
-use Rattle.user_grammar.specs.Names.{IsCategoryWord}
+use Rattle.judgments.proofs.StatementLemmas.{among_at}
 
 before_trans : (a b d : List ℕ) (ts : List Token) → StandsBefore a b ts → StandsBefore b d ts → StandsBefore a d ts
 before_trans a b d [] h k = h
@@ -94,28 +93,11 @@ module _ (sig : Signature) (apart : AreSpelledApart sig) (ts : List Token) where
       let rest : xs ≡ ys = same_decls xs ys h.1 k.1 names in
       cc
 
-  among_collected : (xs : List MetaDecl) (w : List ℕ) → AllByRecursion (IsCollected sig.cats ts) xs → IsAmong w xs → (c : ℕ) × StandsIn w ts × IsCategoryWord sig.cats c w
-  among_collected [] w h a = absurd a
-  among_collected (x ∷ xs) w h (inl e) = (x.cat.0, subst (λ v. StandsIn v ts) e (h.0).written, subst (IsCategoryWord sig.cats x.cat.0) e (h.0).cat)
-  among_collected (x ∷ xs) w h (inr a) = among_collected xs w h.1 a
-
-  -- tokens have one list of metavariables
-  pub one_collection : (xs ys : List MetaDecl) → AreCollected sig.cats ts xs → AreCollected sig.cats ts ys → xs ≡ ys
-  one_collection xs ys h k =
-      same_decls xs ys h.each k.each
-      (same_names ts xs ys h.differ k.differ h.in_order k.in_order
-      (λ w a. (let s = among_collected xs w h.each a in k.all w s.0 s.1 s.2)) (λ w a. (let s = among_collected ys w k.each a in h.all w s.0 s.1 s.2)))
-
-found_among : (ms : List MetaDecl) (n : ℕ) (b : MetaDecl) (w : List ℕ) → slice_get ms n ≡ Some b → b.name ≡ w → IsAmong w ms
-found_among [] n b w h e = (let never : None ≡ Some b = h in cc)
-found_among (m ∷ ms) zero b w h e = inl (let same : m ≡ b = cc in ap (λ (d : MetaDecl). d.name) same ∙ e)
-found_among (m ∷ ms) (suc n) b w h e = inr (found_among ms n b w h e)
-
 not_later : (x : MetaDecl) (metas : List MetaDecl) (n : ℕ) (a b : MetaDecl) → AllByRecursion (λ v. x.name ≢ v) (map (λ (d : MetaDecl). d.name) metas) → Some x ≡ Some a
     → slice_get metas n ≡ Some b → a.name ≡ b.name → ⊥
 not_later x metas n a b differ g h e =
     let first : x ≡ a = cc in
-    not_again x.name metas differ (found_among metas n b x.name h (sym (ap (λ (d : MetaDecl). d.name) first ∙ e)))
+    not_again x.name metas differ (among_at metas n b x.name h (sym (ap (λ (d : MetaDecl). d.name) first ∙ e)))
 
 -- two places of one name are one place
 pub one_place : (metas : List MetaDecl) (m n : ℕ) (a b : MetaDecl) → AreDifferentNames (map (λ (d : MetaDecl). d.name) metas) → slice_get metas m ≡ Some a → slice_get metas n ≡ Some b

@@ -1,5 +1,5 @@
 -- What the answers to a reading say of the one reading of a form.
-use Rattle.std.proofs.Common.{◌≡◌, ◌<◌, ◌≤◌, ℕ, List, [], ◌∷◌, length, map, refl, ap, ◌∙◌, sym, subst, arith, Option, Some, None, MatchOption}
+use Rattle.std.proofs.Common.{◌≡◌, ◌≤◌, ℕ, List, [], ◌∷◌, length, map, refl, ap, ◌∙◌, sym, subst, Option, Some, None, MatchOption}
 use Rattle.std.specs.List.{AllByRecursion}
 use Rattle.binding_terms.specs.Signature.{Signature}
 use Rattle.proof_lexer.specs.View as lexed
@@ -76,9 +76,6 @@ module _ (sig : Signature) (js : List Judgment) (names : Names) (ts : List Token
 
   pub two_read : (a b : ℕ × Said) → AreFirstTwo sig js (settled names) (want_judgment ∷ []) ts a b → (j : JudgmentScheme) → ReadsOnlyAs sig js names ts j → ⊥
   two_read a b h j k = (h.1).new.0 (k.reading.no_other a (h.0).reads ∙ sym (k.reading.no_other b (h.1).reads))
-
-  pub long_read : 256 < length ts → (j : JudgmentScheme) → ReadsOnlyAs sig js names ts j → ⊥
-  long_read long j k = (let short = k.within in omega arith)
 
 settled_scope : (scope : ReadingScope) → scope.vars ≡ [] → scope.fresh ≡ not_fresh → scope ≡ settled scope.names
 settled_scope scope v f = λ i. record { names = scope.names; vars = v i; fresh = f i }

@@ -1,5 +1,5 @@
 -- Rules over bare judgments: the one rule for which a written one stands.
-use Rattle.std.proofs.Common.{◌≡◌, ◌⊎◌, ◌+◌, ◌<◌, ℕ, suc, List, [], ◌∷◌, ◌++◌, length, map, inl, inr, ap, ◌∙◌, sym, subst, arith, refl, Some, slice_get}
+use Rattle.std.proofs.Common.{◌≡◌, ◌⊎◌, ◌+◌, ℕ, suc, List, [], ◌∷◌, ◌++◌, length, map, inl, inr, ap, ◌∙◌, sym, subst, arith, refl, Some, slice_get}
 use Rattle.std.specs.List.{AllByRecursion, AllZip}
 use Rattle.binding_terms.specs.Numbered.{AnyByRecursion}
 use Rattle.binding_terms.specs.Signature.{Signature}
@@ -8,7 +8,7 @@ use Rattle.scheme_terms.specs.SchemeScope.{AreDifferentNames}
 use Rattle.scheme_terms.specs.declared.scheme.MetaDecl.{MetaDecl}
 use Rattle.scheme_terms.specs.declared.scheme.Root.TheVariants.{Closed}
 use Rattle.rule_schemes.specs.NewNames.{AreInOrder}
-use Rattle.rule_schemes.specs.Reading.{Token}
+use Rattle.rule_schemes.specs.Reading.{Token, IsCategoryWord, AreSpelledApart}
 use Rattle.rule_schemes.specs.Rules.{JudgmentScheme, Rule, rule_root}
 use Rattle.rule_schemes.specs.Statement.{OccursInJudgment}
 use Rattle.rule_schemes.specs.declared.rule.Judgment.{Judgment}
@@ -17,7 +17,6 @@ use Rattle.judgments.specs.Bare.{IsBareJudgment}
 use Rattle.judgments.specs.Collected.{IsAmong, StandsIn, IsCollected, AreGathered, AreCollected}
 use Rattle.judgments.specs.Laws.{AreBareNames}
 use Rattle.judgments.specs.Named.{AreNamesOf}
-use Rattle.judgments.specs.Spellings.{AreSpelledApart}
 use Rattle.judgments.specs.Standing.{IsRead, AreReadOf, AreUnreadOf}
 use Rattle.judgments.specs.Texts.{RuleText, rule_forms}
 use Rattle.judgments.specs.Theory.{IsBlockRule}
@@ -29,7 +28,6 @@ use Rattle.judgments.proofs.Reordered.{IsSameOver, reorder, reorder_all, all_the
 use Rattle.judgments.proofs.RuleLemmas.{closed_names, bare_names, numbered, one_reading, no_context_read, over_closed}
 use Rattle.judgments.proofs.StatementLemmas.{numbered_all, place_front, place_back, among_at, different_front}
 use Rattle.judgments.proofs.WordsOfForms.{joined}
-use Rattle.user_grammar.specs.Names.{IsCategoryWord}
 use Rattle.binding_terms.proofs.Lists.{all_append, any_back, any_front, any_split, zip_append, zip_last, zip_unique}
 
 pub among_split : (xs ys : List MetaDecl) (w : List ℕ) → IsAmong w (xs ++ ys) → IsAmong w xs ⊎ IsAmong w ys

@@ -1,5 +1,5 @@
 -- What reads where nothing binds: no bracket opens in it, and it is a scheme of its scope.
-use Rattle.std.proofs.Common.{◌≡◌, ◌≢◌, ◌⊎◌, ℕ, zero, suc, List, [], ◌∷◌, ◌++◌, map, inl, inr, refl, ap, ◌∙◌, sym, subst, arith, Option, Some, None, slice_get, MatchOption}
+use Rattle.std.proofs.Common.{◌≡◌, ◌≢◌, ℕ, zero, suc, List, [], ◌∷◌, ◌++◌, map, inl, inr, refl, ap, ◌∙◌, sym, subst, arith, Option, Some, None, slice_get, MatchOption}
 use Rattle.std.specs.List.{AllByRecursion}
 use Rattle.binding_terms.specs.Numbered.{AnyByRecursion}
 use Rattle.binding_terms.specs.Signature.{Signature, Place, slots, binders}

@@ -1,5 +1,5 @@
 -- Readings over the same metavariables in another order.
-use Rattle.std.proofs.Common.{◌≡◌, ◌⊎◌, ◌<◌, ◌+◌, ℕ, zero, suc, List, [], ◌∷◌, ◌++◌, length, map, inl, inr, refl, ap, ◌∙◌, sym, subst, arith, Option, Some, None, slice_get}
+use Rattle.std.proofs.Common.{◌≡◌, ◌⊎◌, ◌<◌, ℕ, zero, suc, List, [], ◌∷◌, length, map, inl, inr, refl, ap, ◌∙◌, sym, subst, arith, Option, Some, None, slice_get}
 use Rattle.std.specs.List.{AllByRecursion, AllZip}
 use Rattle.binding_terms.specs.Numbered.{AnyByRecursion}
 use Rattle.binding_terms.specs.Signature.{Signature}
@@ -8,7 +8,7 @@ use Rattle.scheme_terms.specs.SchemeScope.{AreDifferentNames}
 use Rattle.scheme_terms.specs.Forms.{SchemeContext, SchemeEntry}
 use Rattle.scheme_terms.specs.declared.scheme.MetaDecl.{MetaDecl}
 use Rattle.scheme_terms.specs.declared.scheme.Root.TheVariants.{Closed}
-use Rattle.rule_schemes.specs.Reading.{Token}
+use Rattle.rule_schemes.specs.Reading.{Token, AreSpelledApart}
 use Rattle.rule_schemes.specs.Rules.{JudgmentScheme}
 use Rattle.rule_schemes.specs.Said.{want_judgment, a_judgment}
 use Rattle.rule_schemes.specs.Statement.{OccursInJudgment}
@@ -19,7 +19,6 @@ use Rattle.user_grammar.specs.Bare.{IsBareSignature}
 use Rattle.judgments.specs.Bare.{IsBareJudgment}
 use Rattle.judgments.specs.Collected.{IsCollected, AreGathered}
 use Rattle.judgments.specs.Laws.{AreBareNames}
-use Rattle.judgments.specs.Spellings.{AreSpelledApart}
 use Rattle.judgments.specs.Standing.{IsReadFrom, IsRead}
 use Rattle.judgments.specs.Written.{settled, ReadsOnlyAs}
 use Rattle.judgments.proofs.KeptNames.{among_place, read_in, in_read}

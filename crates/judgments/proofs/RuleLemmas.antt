@@ -8,13 +8,12 @@ use Rattle.binding_terms.specs.declared.grammar.Cat.{Cat}
 use Rattle.scheme_terms.specs.Forms.{Names, KnownVariable}
 use Rattle.scheme_terms.specs.declared.scheme.MetaDecl.{MetaDecl}
 use Rattle.scheme_terms.specs.declared.scheme.Root.TheVariants.{Closed}
-use Rattle.rule_schemes.specs.Reading.{Token, ReadingScope, ReadsJudgment, without_context, with_context}
+use Rattle.rule_schemes.specs.Reading.{Token, ReadingScope, ReadsJudgment, without_context, with_context, AreSpelledApart}
 use Rattle.rule_schemes.specs.Rules.{JudgmentScheme, rule_root, root_of}
 use Rattle.rule_schemes.specs.declared.rule.Judgment.{Judgment}
 use Rattle.user_grammar.specs.Bare.{IsBareSignature}
 use Rattle.judgments.specs.Bare.{IsBareJudgment}
 use Rattle.judgments.specs.Collected.{IsCollected}
-use Rattle.judgments.specs.Spellings.{AreSpelledApart}
 use Rattle.judgments.specs.Written.{ReadsOnlyAs}
 use Rattle.judgments.proofs.BareForms.{reads_as}
 use Rattle.binding_terms.proofs.Lists.{all_at, all_map}

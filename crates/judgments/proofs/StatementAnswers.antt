@@ -211,12 +211,6 @@ module _ (th : Theory) (bare : IsBareTheory th) (front outputs : List (List Toke
     }
 
 module _ {X : Type 0} (out : X → List Token) (th : Theory) (bare : IsBareTheory th) (inputs : List NamedForm) (outputs : List X) where
-  pub all_tokens : joined (map input_tokens (map given_text inputs) ++ map out outputs) ≡ flat_map form_of inputs ++ flat_map out outputs
-  all_tokens =
-      joined_append (map input_tokens (map given_text inputs)) (map out outputs)
-      ∙ ap (λ l. l ++ joined (map out outputs)) (ap joined (front_forms inputs) ∙ joined_map form_of inputs)
-      ∙ ap (λ l. flat_map form_of inputs ++ l) (joined_map out outputs)
-
   all_form_tokens : joined (map form_of inputs ++ map out outputs) ≡ flat_map form_of inputs ++ flat_map out outputs
   all_form_tokens = joined_append (map form_of inputs) (map out outputs) ∙ (λ i. joined_map form_of inputs i ++ joined_map out outputs i)
 

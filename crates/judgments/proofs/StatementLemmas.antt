@@ -1,5 +1,5 @@
 -- Statements on derivations over bare theories: the one statement for which a theorem stands.
-use Rattle.std.proofs.Common.{◌≡◌, ◌≢◌, ◌⊎◌, ◌+◌, ℕ, zero, suc, List, [], ◌∷◌, ◌++◌, length, map, inl, inr, refl, ap, ◌∙◌, sym, subst, arith, Some, None, slice_get, append_assoc}
+use Rattle.std.proofs.Common.{◌≡◌, ◌≢◌, ◌+◌, ℕ, zero, suc, List, [], ◌∷◌, ◌++◌, length, map, inl, inr, refl, ap, ◌∙◌, sym, subst, arith, Some, None, slice_get, append_assoc}
 use Rattle.std.specs.List.{AllByRecursion, AllZip}
 use Rattle.binding_terms.specs.Numbered.{AnyByRecursion, AllNumbered}
 use Rattle.binding_terms.specs.Signature.{Signature}
@@ -63,17 +63,6 @@ pub numbered_all : (P : ℕ → Type 0) (xs : List MetaDecl) (n : ℕ) → AllNu
 numbered_all P [] n h m d e = absurd (let never : None ≡ Some d = e in cc)
 numbered_all P (x ∷ xs) n h zero d e = (let same : n ≡ n + 0 = omega arith in subst P same h.0)
 numbered_all P (x ∷ xs) n h (suc m) d e = (let same : suc n + m ≡ n + suc m = omega arith in subst P same (numbered_all P xs (suc n) h.1 m d e))
-
--- a place of two lists is one of the first or of the second
-pub place_split : (xs ys : List MetaDecl) (m : ℕ) (d : MetaDecl) → slice_get (xs ++ ys) m ≡ Some d → (slice_get xs m ≡ Some d) ⊎ ((k : ℕ) × (m ≡ length xs + k) × (slice_get ys k ≡ Some d))
-place_split [] ys m d e = inr (m, (let same : m ≡ 0 + m = omega arith in same), e)
-place_split (x ∷ xs) ys zero d e = inl e
-place_split (x ∷ xs) ys (suc m) d e = which (place_split xs ys m d e)
-  where
-    which : (slice_get xs m ≡ Some d) ⊎ ((k : ℕ) × (m ≡ length xs + k) × (slice_get ys k ≡ Some d))
-        → (slice_get xs m ≡ Some d) ⊎ ((k : ℕ) × (suc m ≡ suc (length xs) + k) × (slice_get ys k ≡ Some d))
-    which (inl h) = inl h
-    which (inr h) = inr (h.0, (let same = h.1 in let next : suc m ≡ suc (length xs) + h.0 = omega arith in next), h.2)
 
 pub place_front : (xs ys : List MetaDecl) (m : ℕ) (d : MetaDecl) → slice_get xs m ≡ Some d → slice_get (xs ++ ys) m ≡ Some d
 place_front [] ys m d e = absurd (let never : None ≡ Some d = e in cc)

@@ -11,19 +11,16 @@ use Rattle.sy_base.specs.Tokens.{PlainToken}
 use Rattle.proof_lexer.specs.View.{token_view, kind_and_text}
 use Rattle.proof_lexer.specs.declared.token.Token as of_token
 use Rattle.outline_reader.specs.Plain.{PlainPortion, plain_form, taken}
-use Rattle.rule_schemes.specs.Plain.{IsPlainSignature}
-use Rattle.rule_schemes.specs.Reading.{Token}
+use Rattle.rule_schemes.specs.Reading.{Token, IsCategoryWord, AreSpelledApart}
 use Rattle.rule_schemes.specs.Rules.{Rule, Theory, JudgmentFits, argument_slots, IsSystem}
 use Rattle.rule_schemes.specs.declared.rule.Judgment.{Judgment}
 use Rattle.user_grammar.specs.Bare.{IsBareSignature}
 use Rattle.judgments.specs.Bare.{IsBareJudgment, IsBareTheory}
 use Rattle.judgments.specs.Built.{IsBuiltJudgment, HasRulesOf}
-use Rattle.judgments.specs.Spellings.{AreSpelledApart}
 use Rattle.judgments.specs.Texts.{JudgmentText, RuleText, as_read, judgments_in, rule_in, rules_in, block_after}
 use Rattle.judgments.specs.Theory.{IsItemOf, IsJudgmentOf, IsBlockRule, IsTheoryOf, AreNamedApart, a_judgment, a_rule}
 use Rattle.judgments.proofs.OneRule.{one_rule}
 use Rattle.judgments.proofs.Spelling.{none_spelled}
-use Rattle.user_grammar.specs.Names.{IsCategoryWord}
 use Rattle.binding_terms.proofs.Lists.{map_append, zip_append, zip_both, zip_map, zip_right, zip_split, zip_unique}
 
 -- forms are read as their tokens are lent
@@ -61,10 +58,6 @@ rule_added th more text other r same h is =
 pub rule_none : (sig : Signature) (js : List Judgment) (text other : RuleText) → text ≡ other → ((r : Rule) → IsBlockRule sig js text r → ⊥) → (rs : List Rule) → AllZip (IsBlockRule sig js) (other ∷ []) rs → ⊥
 rule_none sig js text other same none [] h = h
 rule_none sig js text other same none (r ∷ rs) h = none r (subst (λ (t : RuleText). IsBlockRule sig js t r) (sym same) h.0)
-
--- no rule more
-pub nothing_added : (th : Theory) → HasRulesOf th [] th
-nothing_added th = record { sig = refl; judgments = refl; added = []; rules = sym (append-nil th.rules); written = tt }
 
 -- rules more and again more
 pub added_twice : (th mid more : Theory) (texts others : List RuleText) → HasRulesOf th texts mid → HasRulesOf mid others more → HasRulesOf th (texts ++ others) more
@@ -169,9 +162,6 @@ module _ (sig : Signature) (bare : IsBareSignature sig) (portions : List PlainPo
     assumed = subst (λ (o : Option CatId). MatchOption o (Unit {0}) (λ c. IsContext sig c.0 × (Rattle.std.specs.Prelude.count_by (λ s. Rattle.std.specs.Prelude.◌==◌ s.cat c.0) (slots j.items) ≡ 1))) (sym (h.1).no_context) tt;
     no_other = subst (λ (o : Option CatId). AllByRecursion (λ (s : Place). IsPlain sig s.cat) (argument_slots o (slots j.items))) (sym (h.1).no_context) (plain_slots text.form j.items (h.0).items);
   }
-
-  pub plain_signature : IsPlainSignature sig
-  plain_signature = bare.plain
 
 -- a token stands for one item at most
 module _ (sig : Signature) (apart : AreSpelledApart sig) (portions : List PlainPortion) where

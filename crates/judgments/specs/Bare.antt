@@ -6,7 +6,7 @@ use Rattle.rule_schemes.specs.Rules.{Theory}
 use Rattle.rule_schemes.specs.Statement.{StatementInput, given, syntax_input, Theorem}
 use Rattle.rule_schemes.specs.declared.rule.Judgment.{Judgment}
 use Rattle.user_grammar.specs.Bare.{IsBareSignature}
-use Rattle.judgments.specs.Spellings.{AreSpelledApart}
+use Rattle.rule_schemes.specs.Reading.{AreSpelledApart}
 
 -- the judgment assumes no context
 pub record IsBareJudgment (j : Judgment) : Type 0 where

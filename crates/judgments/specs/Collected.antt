@@ -6,10 +6,9 @@ use Rattle.binding_terms.specs.Numbered.{AnyByRecursion}
 use Rattle.binding_terms.specs.declared.grammar.Cat.{Cat}
 use Rattle.scheme_terms.specs.SchemeScope.{AreDifferentNames}
 use Rattle.scheme_terms.specs.declared.scheme.MetaDecl.{MetaDecl}
-use Rattle.rule_schemes.specs.Reading.{Token, word}
+use Rattle.rule_schemes.specs.Reading.{Token, word, IsCategoryWord}
 use Rattle.rule_schemes.specs.NewNames.{AreInOrder}
 use Rattle.judgments.specs.Spellings.{IsNoSpelling}
-use Rattle.user_grammar.specs.Names.{IsCategoryWord}
 
 abbrev pub IsAmong : List ℕ → List MetaDecl → Type 0
 IsAmong w metas = AnyByRecursion (λ decl. decl.name ≡ w) metas

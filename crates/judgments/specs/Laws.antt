@@ -2,13 +2,12 @@
 use Rattle.std.specs.Prelude.{◌≡◌, List, []}
 use Rattle.std.specs.List.{AllByRecursion}
 use Rattle.scheme_terms.specs.Forms.{Names}
-use Rattle.rule_schemes.specs.Reading.{Token}
+use Rattle.rule_schemes.specs.Reading.{Token, AreSpelledApart}
 use Rattle.rule_schemes.specs.Rules.{JudgmentScheme, Theory, IsJudgmentScheme}
 use Rattle.judgments.specs.Bare.{IsBareTheory}
 use Rattle.binding_terms.specs.Signature.{Signature}
 use Rattle.outline_reader.specs.Plain.{PlainPortion}
 use Rattle.user_grammar.specs.Grammar.{IsSignatureOf}
-use Rattle.judgments.specs.Spellings.{AreSpelledApart}
 use Rattle.judgments.specs.Written.{ReadsOnlyAs}
 
 -- names without known variables and parameters

@@ -6,13 +6,12 @@ use Rattle.sy_base.specs.Tokens.{PlainToken}
 use Rattle.outline_reader.specs.Plain.{PlainPortion, PlainArgument, name_alone, enclosed}
 use Rattle.scheme_terms.specs.declared.scheme.Root.{Root}
 use Rattle.scheme_terms.specs.declared.scheme.Root.TheVariants.{Closed, Whole}
-use Rattle.rule_schemes.specs.Reading.{word, IsNameOf, IsVariableWord}
+use Rattle.rule_schemes.specs.Reading.{word, IsNameOf, IsVariableWord, IsCategoryWord}
 use Rattle.rule_schemes.specs.Rules.{Theory}
 use Rattle.rule_schemes.specs.Statement.{Theorem, IsStatement, IsTheoremScope, IsWithinEntries, HasNoFault}
 use Rattle.judgments.specs.Texts.{TheoremText, as_read, theorems_in}
 use Rattle.judgments.specs.Theory.{a_theorem, AreNamedApart}
 use Rattle.judgments.specs.Written.{WrittenInput, for_derivation, for_term, IsStatementOf}
-use Rattle.user_grammar.specs.Names.{IsCategoryWord}
 
 -- the root of a theorem: the whole context of the category with exactly the name that it assumes, or none
 abbrev pub IsAssumedRoot : Signature → Option PlainToken → Root → Type 0

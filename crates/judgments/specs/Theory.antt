@@ -7,11 +7,11 @@ use Rattle.binding_terms.specs.declared.grammar.Item.{Item}
 use Rattle.binding_terms.specs.declared.grammar.Item.TheVariants.{Word, Slot, Binder}
 use Rattle.sy_base.specs.Tokens.{PlainToken, is_numeral}
 use Rattle.outline_reader.specs.Plain.{PlainPortion, judgment_of, rule_of, theorem_of}
-use Rattle.rule_schemes.specs.Reading.{IsNameOf, MayBeTerminal}
+use Rattle.rule_schemes.specs.Reading.{IsNameOf, MayBeTerminal, IsCategoryWord}
 use Rattle.rule_schemes.specs.Rules.{Rule, Theory, IsSystem, rule_root}
 use Rattle.rule_schemes.specs.declared.rule.Judgment.{Judgment}
 use Rattle.user_grammar.specs.File.{listed}
-use Rattle.user_grammar.specs.Names.{IsAmong, IsCategoryWord}
+use Rattle.user_grammar.specs.Names.{IsAmong}
 use Rattle.judgments.specs.Spellings.{IsNoSpelling}
 use Rattle.judgments.specs.Texts.{JudgmentText, RuleText, judgments_in, rules_in, rule_forms}
 use Rattle.judgments.specs.Written.{TOKENS, IsRuleOf}

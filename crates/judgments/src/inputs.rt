@@ -1,14 +1,14 @@
 // The inputs of a theorem that are derivations, and their names.
-ghost use Rattle.std.specs.Prelude.{◌≡◌, ◌↔◌, ◌⊎◌, ◌∷◌, [], IsTrue, IfOk, MatchOption, map};
+ghost use Rattle.std.specs.Prelude.{◌≡◌, ◌↔◌, ◌⊎◌, IsTrue, IfOk, MatchOption, map};
 ghost use Rattle.std.specs.List.{AllByRecursion};
 ghost use Rattle.user_grammar.specs.Bare.{IsBareSignature};
 ghost use Rattle.judgments.specs.Spellings.{IsNoSpelling};
 ghost use Rattle.judgments.specs.Statements.{IsNameless, IsNamedFreely, IsNamedOtherwise, AreNamedDifferently};
 ghost use Rattle.judgments.specs.Views.{input_text, given_text, IsForDerivation};
 
-use crate::words::{is_spelling, same_bytes};
 use binding_terms::{Cat, NoMemory, Sig};
 use outline_reader::{InputText, NamedForm};
+use rule_schemes::{is_spelling, same_text};
 use std::alloc::Global;
 
 /// The form of a derivation that the input is.
@@ -54,7 +54,7 @@ fn is_no_spelling(cats: &[Cat], word: &[u8]) -> bool
 fn is_nameless(name: &[u8]) -> bool
     ensures { IsTrue result ↔ IsNameless name.now }
 {
-    same_bytes(name, b"_".as_slice())
+    same_text(name, b"_".as_slice())
 }
 
 /// Whether the name of the input may be given: it is no spelling of a category, and there are no variables.
@@ -81,7 +81,7 @@ pub fn all_named_freely(sig: &Sig, inputs: &[NamedForm<'_>]) -> bool
 fn is_named_otherwise(name: &[u8], input: &NamedForm<'_>) -> bool
     ensures { IsTrue result ↔ IsNamedOtherwise name.now (given_text input.now) }
 {
-    !same_bytes(name, input.name.text.as_bytes())
+    !same_text(name, input.name.text.as_bytes())
 }
 
 fn all_named_otherwise(name: &[u8], inputs: &[NamedForm<'_>]) -> bool

@@ -1,7 +1,6 @@
 // The items for which the tokens of a judgment's form stand.
-ghost use Rattle.std.specs.Prelude.{◌≡◌, ◌↔◌, ◌⊎◌, ◌≢◌, ◌∷◌, [], IsTrue, IfOk, MatchOption, List, map, ◌==◌};
+ghost use Rattle.std.specs.Prelude.{◌≡◌, ◌↔◌, ◌⊎◌, ◌∷◌, [], IsTrue, IfOk, MatchOption, List, map, ◌==◌};
 ghost use Rattle.std.specs.List.{AllZip};
-ghost use Rattle.binding_terms.specs.Numbered.{AnyByRecursion};
 ghost use Rattle.binding_terms.specs.declared.grammar.Item.{Item};
 ghost use Rattle.proof_lexer.specs.View.{token_view, kind_number};
 ghost use Rattle.binding_terms.specs.declared.grammar.Item.TheVariants.{Slot};
@@ -12,10 +11,11 @@ ghost use Rattle.user_grammar.specs.File.{listed_in, listed};
 ghost use Rattle.user_grammar.specs.Names.{IsAmong};
 ghost use Rattle.judgments.specs.Theory.{IsTerminalToken, IsItemOf};
 
-use crate::words::{same_bytes, spelled, text_of};
-use binding_terms::{CatId, Item, NoMemory, Sig};
+use crate::words::spelled;
+use binding_terms::{CatId, Item, NoMemory, Sig, Text};
 use outline_reader::{Outline, Portion};
 use proof_lexer::{Kind, Token, is_numeral};
+use rule_schemes::same_text;
 use sqlite_items::Items;
 use std::alloc::Global;
 
@@ -23,7 +23,7 @@ fn has_text(items: &[Token<'_>], text: &[u8]) -> bool
     ensures { IsTrue result ↔ IsAmong (map (λ item. item.text) (map token_view items.now)) text.now }
 {
     for item in items {
-        if same_bytes(item.text.as_bytes(), text) {
+        if same_text(item.text.as_bytes(), text) {
             return true;
         }
     }
@@ -55,13 +55,13 @@ fn is_listed(outline: &Outline<'_>, text: &[u8]) -> bool
 fn is_parenthesis(text: &[u8]) -> bool
     ensures { IsTrue result ↔ ((text.now ≡ 40 ∷ []) ⊎ (text.now ≡ 41 ∷ [])) }
 {
-    same_bytes(text, b"(".as_slice()) || same_bytes(text, b")".as_slice())
+    same_text(text, b"(".as_slice()) || same_text(text, b")".as_slice())
 }
 
 fn is_square(text: &[u8]) -> bool
     ensures { IsTrue result ↔ ((text.now ≡ 91 ∷ []) ⊎ (text.now ≡ 93 ∷ [])) }
 {
-    same_bytes(text, b"[".as_slice()) || same_bytes(text, b"]".as_slice())
+    same_text(text, b"[".as_slice()) || same_text(text, b"]".as_slice())
 }
 
 /// Whether the token, which is no word that is a spelling of a category, is a terminal of a judgment's form.
@@ -72,7 +72,7 @@ fn is_terminal(sig: &Sig, outline: &Outline<'_>, token: &Token<'_>) -> bool
     let text = token.text.as_bytes();
     match token.kind {
         Kind::Word => is_numeral(token.text) || is_listed(outline, text),
-        Kind::Symbol => !same_bytes(text, b"|".as_slice()),
+        Kind::Symbol => !same_text(text, b"|".as_slice()),
         Kind::Punct => !is_parenthesis(text) && !is_square(text),
         Kind::Bar => false,
         Kind::Quoted => !is_parenthesis(text),
@@ -118,7 +118,7 @@ fn terminal_of(
     if !is_terminal(sig, outline, token) {
         return Ok(None);
     }
-    let text = text_of(alloc, token.text.as_bytes())?;
+    let text = Text::of(alloc, token.text.as_bytes())?;
     Ok(Some(Item::Word {
         text,
         quoted: is_quoted(token.kind),

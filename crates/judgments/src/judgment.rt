@@ -1,17 +1,14 @@
 // The judgments that a file declares.
-ghost use Rattle.std.specs.Prelude.{◌≡◌, ◌↔◌, IsTrue, IfOk, OnOk, MatchOption, List, None, [], ◌∷◌, ◌++◌, map};
-ghost use Rattle.std.specs.List.{AllZip, AllByRecursion};
-ghost use Rattle.proof_lexer.specs.View.{token_view};
+ghost use Rattle.std.specs.Prelude.{◌≡◌, IfOk, OnOk, MatchOption, List, None, [], ◌∷◌, ◌++◌};
+ghost use Rattle.std.specs.List.{AllZip};
 ghost use Rattle.outline_reader.specs.Views.{portion_view};
 ghost use Rattle.outline_reader.specs.Plain.{plain_portion, plain_form, outlined};
-ghost use Rattle.rule_schemes.specs.Rules.{JudgmentFits};
 ghost use Rattle.rule_schemes.specs.declared.rule.Judgment.{Judgment};
 ghost use Rattle.judgments.specs.Texts.{judgment_in, judgments_in};
 ghost use Rattle.judgments.specs.Built.{IsBuiltJudgment};
 
 use crate::items::items_of;
-use crate::words::text_of;
-use binding_terms::{NoMemory, Sig};
+use binding_terms::{NoMemory, Sig, Text};
 use outline_reader::{Form, Name, Outline, Portion};
 use rule_schemes::Judgment;
 use std::alloc::Global;
@@ -38,7 +35,7 @@ fn judgment_of(
     }
     match items_of(alloc, sig, outline, form)? {
         Some(items) => Ok(Some(Judgment {
-            name: text_of(alloc, name.text.as_bytes())?,
+            name: Text::of(alloc, name.text.as_bytes())?,
             ctx: None,
             items,
         })),

@@ -15,5 +15,6 @@ mod system;
 mod words;
 
 pub use laws::{readings_are_in_scope, signatures_spell_apart};
+pub use readings::read_form;
 pub use statements::statements_of;
 pub use system::system_of;

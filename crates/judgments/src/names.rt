@@ -1,30 +1,18 @@
 // The metavariables of forms.
-ghost use Rattle.std.specs.Prelude.{◌≡◌, ◌↔◌, ◌++◌, IsTrue, IfOk, OnOk, List, map, flat_map};
+ghost use Rattle.std.specs.Prelude.{OnOk, map, flat_map};
 ghost use Rattle.proof_lexer.specs.View.{kind_and_text};
-ghost use Rattle.rule_schemes.specs.Reading.{Token, word};
-ghost use Rattle.judgments.specs.Collected.{IsAmong, AreCollected, AreCollectedFrom, AreNext, IsLonger};
-ghost use Rattle.user_grammar.specs.Names.{IsCategoryWord};
+ghost use Rattle.rule_schemes.specs.Reading.{Token, word, IsCategoryWord};
+ghost use Rattle.judgments.specs.Collected.{AreCollectedFrom, AreNext, IsLonger};
 
 use crate::items::is_word;
-use crate::words::{same_bytes, spelled, text_of};
-use binding_terms::{Cat, CatId, NoMemory, Sig};
+use crate::words::spelled;
+use binding_terms::{Cat, CatId, NoMemory, Sig, Text};
 use outline_reader::{Form, NamedForm};
 use proof_lexer::Token;
+use rule_schemes::is_among;
 use scheme_terms::MetaDecl;
 use sqlite_items::Items;
 use std::alloc::Global;
-
-/// Whether a metavariable has that name.
-fn is_among(name: &[u8], metas: &[MetaDecl]) -> bool
-    ensures { IsTrue result ↔ IsAmong name.now metas.now }
-{
-    for decl in metas {
-        if same_bytes(decl.name.bytes(), name) {
-            return true;
-        }
-    }
-    false
-}
 
 /// Puts a metavariable without parameters at the end, where its name is new.
 fn add_name(
@@ -37,11 +25,11 @@ fn add_name(
     requires { IsCategoryWord cats.now cat.0 name.now }
     ensures { OnOk result (AreNext cats.now metas.old (word name.now) metas.new) }
 {
-    if is_among(name, metas.as_slice()) {
+    if is_among(metas.as_slice(), name) {
         return Ok(());
     }
     metas.push(MetaDecl {
-        name: text_of(alloc, name)?,
+        name: Text::of(alloc, name)?,
         cat,
         params: Items::new(alloc),
     })?;

@@ -6,8 +6,8 @@ ghost use Rattle.outline_reader.specs.Plain.{plain_portion};
 ghost use Rattle.judgments.specs.Theory.{a_judgment, a_rule, a_theorem, declared_name, AreNamedAlike, AreNamedApart};
 ghost use Rattle.judgments.specs.Views.{declares};
 
-use crate::words::same_bytes;
 use outline_reader::{Name, Portion};
+use rule_schemes::same_text;
 
 /// What a portion declares.
 #[derive(Clone, Copy)]
@@ -58,7 +58,7 @@ fn name_of<'a>(what: Declares, portion: &Portion<'a>) -> Option<Name<'a>>
 fn same_name(one: Name<'_>, other: Name<'_>) -> bool
     ensures { IsTrue result ↔ (one.now.text.now ≡ other.now.text.now) }
 {
-    same_bytes(one.text.as_bytes(), other.text.as_bytes())
+    same_text(one.text.as_bytes(), other.text.as_bytes())
 }
 
 fn are_alike(what: Declares, one: &Portion<'_>, other: &Portion<'_>) -> bool

@@ -20,8 +20,7 @@ ghost use Rattle.judgments.specs.Written.{settled, ReadsOnlyAs};
 use crate::names::{take_all_names, take_names};
 use crate::readings::{metas_of, read_form, read_forms, scope_of};
 use crate::standing::{read_of, unread_of, with_more};
-use crate::words::text_of;
-use binding_terms::{NoMemory, Sig};
+use binding_terms::{NoMemory, Sig, Text};
 use outline_reader::{Form, Name};
 use rule_schemes::{JScheme, ReadScope, RuleFault, RuleScheme, System};
 use scheme_terms::MetaDecl;
@@ -93,7 +92,7 @@ fn made(
       conclusion = forms.conclusion;
     }) }
 {
-    let name = text_of(alloc, name.text.as_bytes())?;
+    let name = Text::of(alloc, name.text.as_bytes())?;
     let Forms {
         premises,
         conclusion,

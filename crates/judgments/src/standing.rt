@@ -1,53 +1,20 @@
 // Which metavariables stand in what was read over them.
 ghost use Rattle.std.specs.Prelude.{◌≡◌, ◌↔◌, ◌++◌, IsTrue, IfOk, map};
-ghost use Rattle.binding_terms.specs.Numbered.{AnyByRecursion};
-ghost use Rattle.scheme_terms.specs.SchemeTree.{OccursIn};
-ghost use Rattle.scheme_terms.specs.View.{scheme, scheme_entry};
-ghost use Rattle.rule_schemes.specs.Said.{OccursInEntries};
 ghost use Rattle.rule_schemes.specs.Statement.{OccursInJudgment};
 ghost use Rattle.rule_schemes.specs.View.{judgment_scheme};
 ghost use Rattle.judgments.specs.Standing.{IsReadFrom, IsRead, AreReadOf, AreUnreadOf};
 
-use crate::words::{number, same_bytes, text_of};
-use binding_terms::NoMemory;
-use rule_schemes::JScheme;
-use scheme_terms::{MetaDecl, MetaId, SEntry, Scheme, occurs_in};
+use binding_terms::{NoMemory, number};
+use rule_schemes::{JScheme, occurs_in_judgment, same_text};
+use scheme_terms::{MetaDecl, MetaId, copy_meta, copy_metas};
 use sqlite_items::Items;
 use std::alloc::Global;
-
-fn occurs_in_any(m: MetaId, schemes: &[Scheme]) -> bool
-    ensures { IsTrue result ↔ AnyByRecursion (OccursIn m.0) (map scheme schemes.now) }
-{
-    for s in schemes {
-        if occurs_in(m, s) {
-            return true;
-        }
-    }
-    false
-}
-
-fn occurs_in_entries(m: MetaId, entries: &[SEntry]) -> bool
-    ensures { IsTrue result ↔ OccursInEntries m.0 (map scheme_entry entries.now) }
-{
-    for entry in entries {
-        if occurs_in_any(m, entry.args.as_slice()) {
-            return true;
-        }
-    }
-    false
-}
-
-fn occurs_in_judgment(m: MetaId, j: &JScheme) -> bool
-    ensures { IsTrue result ↔ OccursInJudgment m.0 (judgment_scheme j.now) }
-{
-    occurs_in_entries(m, j.ctx.entries.as_slice()) || occurs_in_any(m, j.args.as_slice())
-}
 
 /// Whether this metavariable has the name and stands in the judgment.
 fn stands_in(m: MetaId, decl: &MetaDecl, name: &[u8], j: &JScheme) -> bool
     ensures { IsTrue result ↔ ((decl.now.name ≡ name.now) × OccursInJudgment m.0 (judgment_scheme j.now)) }
 {
-    same_bytes(decl.name.bytes(), name) && occurs_in_judgment(m, j)
+    same_text(decl.name.bytes(), name) && occurs_in_judgment(m, j)
 }
 
 /// Whether the metavariable with this name stands in the judgment.
@@ -74,16 +41,6 @@ fn is_read(metas: &[MetaDecl], forms: &[JScheme], name: &[u8]) -> Result<bool, N
     Ok(false)
 }
 
-fn again(alloc: Global, decl: &MetaDecl) -> Result<MetaDecl, NoMemory>
-    ensures { IfOk result (λ new. new ≡ decl.now) }
-{
-    Ok(MetaDecl {
-        name: text_of(alloc, decl.name.bytes())?,
-        cat: decl.cat,
-        params: Items::from_slice(alloc, decl.params.as_slice())?,
-    })
-}
-
 /// Those of the listed metavariables that stand in one of the judgments, which were read over `metas`.
 pub fn read_of(
     alloc: Global,
@@ -96,7 +53,7 @@ pub fn read_of(
     let mut those = Items::new(alloc);
     for decl in listed {
         if is_read(metas, forms, decl.name.bytes())? {
-            those.push(again(alloc, decl)?)?;
+            those.push(copy_meta(alloc, decl)?)?;
         }
     }
     Ok(those)
@@ -114,7 +71,7 @@ pub fn unread_of(
     let mut those = Items::new(alloc);
     for decl in listed {
         if !is_read(metas, forms, decl.name.bytes())? {
-            those.push(again(alloc, decl)?)?;
+            those.push(copy_meta(alloc, decl)?)?;
         }
     }
     Ok(those)
@@ -128,10 +85,7 @@ pub fn with_more(
 ) -> Result<Items<MetaDecl>, NoMemory>
     ensures { IfOk result (λ all. all ≡ metas.now ++ more) }
 {
-    let mut all = Items::new(alloc);
-    for decl in metas {
-        all.push(again(alloc, decl)?)?;
-    }
+    let mut all = copy_metas(alloc, metas)?;
     all.append(more)?;
     Ok(all)
 }

@@ -1,5 +1,5 @@
 // The statements of the theorems of a file.
-ghost use Rattle.std.specs.Prelude.{◌≡◌, ◌↔◌, ◌++◌, ◌∷◌, [], suc, IsTrue, IfOk, OnOk, MatchOption, List, map, flat_map};
+ghost use Rattle.std.specs.Prelude.{◌≡◌, ◌↔◌, ◌++◌, ◌∷◌, [], IsTrue, IfOk, OnOk, MatchOption, List, map, flat_map};
 ghost use Rattle.std.specs.List.{AllZip, AllByRecursion};
 ghost use Rattle.scheme_terms.specs.View.{names};
 ghost use Rattle.scheme_terms.specs.declared.scheme.Root.TheVariants.{Closed};
@@ -28,8 +28,7 @@ use crate::names::{take_all_names, take_given_names};
 use crate::naming::{Declares, named_apart};
 use crate::readings::{metas_of, read_form, read_forms, scope_of};
 use crate::standing::{read_of, unread_of, with_more};
-use crate::words::{number, text_of};
-use binding_terms::{NoMemory, Sig};
+use binding_terms::{NoMemory, Sig, Text, number};
 use outline_reader::{Form, InputText, Just, Name, NamedForm, Outline, Portion};
 use rule_schemes::{Input, JScheme, ReadScope, Statement, System};
 use scheme_terms::{MetaDecl, Root, Scope};
@@ -217,7 +216,7 @@ fn made(
     }) }
 {
     let group = number(group)?;
-    let name = text_of(alloc, name.text.as_bytes())?;
+    let name = Text::of(alloc, name.text.as_bytes())?;
     let Parts { inputs, outputs } = parts;
     Ok(Statement {
         name,

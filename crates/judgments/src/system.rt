@@ -1,16 +1,15 @@
 // The system for which the portions of a file stand.
-ghost use Rattle.std.specs.Prelude.{◌≡◌, ◌↔◌, ◌++◌, [], IsTrue, IfOk, OnOk, MatchOption, MatchBool, List, map};
+ghost use Rattle.std.specs.Prelude.{◌≡◌, ◌↔◌, [], IsTrue, IfOk, MatchOption, MatchBool, List};
 ghost use Rattle.std.specs.List.{AllZip, AllByRecursion};
-ghost use Rattle.binding_terms.specs.Signature.{Fits};
 ghost use Rattle.outline_reader.specs.Views.{portion_view};
 ghost use Rattle.outline_reader.specs.Plain.{plain_portion, outlined};
 ghost use Rattle.rule_schemes.specs.Plain.{IsPlainSignature};
 ghost use Rattle.rule_schemes.specs.Rules.{Rule, Theory, JudgmentFits, IsSystem};
-ghost use Rattle.rule_schemes.specs.View.{theory, rule as plain_rule};
+ghost use Rattle.rule_schemes.specs.View.{theory};
 ghost use Rattle.user_grammar.specs.Bare.{IsBareSignature};
 ghost use Rattle.judgments.specs.Bare.{IsBareTheory};
 ghost use Rattle.judgments.specs.Built.{HasRulesOf};
-ghost use Rattle.judgments.specs.Spellings.{AreSpelledApart};
+ghost use Rattle.rule_schemes.specs.Reading.{AreSpelledApart};
 ghost use Rattle.judgments.specs.Texts.{rule_in, rules_in, block_after};
 ghost use Rattle.judgments.specs.Theory.{IsBlockRule, IsTheoryOf, AreNamedApart, a_judgment, a_rule};
 

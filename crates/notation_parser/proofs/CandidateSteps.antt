@@ -1,16 +1,16 @@
 -- How the candidates are found, token by token.
 use Rattle.std.proofs.Common.{◌≡◌, ◌≢◌, ◌⊎◌, ℕ, ◌+◌, ◌<◌, ◌≤◌, List, [], ◌∷◌, ◌++◌, length, map, take, get_or, inl, inr, refl, ap, ◌∙◌, sym, subst, arith, Some, None}
 use Rattle.std.specs.List.{AllByRecursion}
-use Rattle.std.proofs.lemmas.Bool.{cases_lt}
 use Rattle.std.proofs.lemmas.List.{take_more, map-append}
 use Rattle.binding_terms.specs.Numbered.{AnyByRecursion}
 use Rattle.binding_terms.specs.Signature.{Signature}
 use Rattle.binding_terms.specs.declared.grammar.CatId.{CatId}
 use Rattle.scheme_terms.specs.declared.scheme.MetaDecl.{MetaDecl}
 use Rattle.rule_schemes.specs.Reading.{Token, word}
-use Rattle.rule_schemes.specs.NewNames.{AreInOrder, StandsBefore, IsNewMeta, IsPlainSpelling, FirstTells}
+use Rattle.rule_schemes.specs.NewNames.{AreInOrder, StandsBefore, IsNewMeta, IsOfFirst, IsPlainSpelling, FirstTells}
+use Rattle.rule_schemes.proofs.Firsts.{IsFirst_once}
 use Rattle.term_reader.specs.Names.{NamesApart}
-use Rattle.notation_parser.specs.Candidates.{IsOfFirst, AreCandidates, StandsIn, AreCandidatesUpTo, IsNextCandidate}
+use Rattle.notation_parser.specs.Candidates.{AreCandidates, StandsIn, AreCandidatesUpTo, IsNextCandidate}
 use Rattle.notation_parser.proofs.Tellings.{first_tells_once, first_tells_stands}
 use Rattle.binding_terms.proofs.Lists.{all_append, all_map, any_back, any_front, any_split}
 
@@ -63,21 +63,11 @@ same_cats (c ∷ cs) (d ∷ ds) e =
     let rest : map (λ (c : CatId). c.0) cs ≡ map (λ (c : CatId). c.0) ds = cc in
     ap (λ (n : ℕ). record { 0 = n } ∷ cs) first ∙ ap (λ (xs : List CatId). d ∷ xs) (same_cats cs ds rest)
 
--- of two categories, each the first that is so, neither stands before the other
-one_first : (P : ℕ → Type 0) (c d : ℕ) → P c → P d → ((e : ℕ) → e < c → P e → ⊥) → ((e : ℕ) → e < d → P e → ⊥) → c ≡ d
-one_first P c d here there before earlier = go (cases_lt c d) (cases_lt d c)
-  where
-    go : (c < d) ⊎ (d ≤ c) → (d < c) ⊎ (c ≤ d) → c ≡ d
-    go (inl lt) which = absurd (earlier c lt here)
-    go (inr le) (inl lt) = absurd (before d lt there)
-    go (inr le) (inr ge) = omega (arith, le, ge)
-
 module _ (sig : Signature) (metas : List MetaDecl) (tokens : List Token) where
   -- a name is that of one new metavariable
   pub one_new_meta : (a b : MetaDecl) → IsNewMeta sig metas tokens a → IsNewMeta sig metas tokens b → a.name ≡ b.name → a ≡ b
   one_new_meta a b h k e =
-      let number : a.cat.0 ≡ b.cat.0 = one_first (λ c. IsPlainSpelling sig c b.name) a.cat.0 b.cat.0 (subst (IsPlainSpelling sig a.cat.0) e h.cat) k.cat
-      (subst (λ w. (earlier : ℕ) → earlier < a.cat.0 → IsPlainSpelling sig earlier w → ⊥) e h.first) k.first in
+      let number : a.cat.0 ≡ b.cat.0 = IsFirst_once (λ c. IsPlainSpelling sig c b.name) a.cat.0 b.cat.0 (subst (IsOfFirst sig a.cat.0) e h.cat) k.cat in
       let params : a.params ≡ b.params =
       same_cats a.params b.params
       (first_tells_once sig b.name tokens (map (λ (c : CatId). c.0) a.params) (map (λ (c : CatId). c.0) b.params)
@@ -163,8 +153,7 @@ pub a_candidate : (sig : Signature) (metas found : List MetaDecl) (tokens : List
 a_candidate sig metas found tokens t w name cat params is same new other plain tells = (
   record {
     new = subst (λ v. AllByRecursion (λ (m : MetaDecl). m.name ≢ v) metas) (sym same) new;
-    cat = subst (IsPlainSpelling sig cat.0) (sym same) plain.here;
-    first = subst (λ v. (earlier : ℕ) → earlier < cat.0 → IsPlainSpelling sig earlier v → ⊥) (sym same) plain.first;
+    cat = subst (IsOfFirst sig cat.0) (sym same) plain;
     params = subst (λ v. FirstTells sig v tokens (map (λ (c : CatId). c.0) params)) (sym same) tells;
   },
   is ∙ ap word (sym same),

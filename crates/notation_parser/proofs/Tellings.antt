@@ -2,12 +2,12 @@
 use Rattle.std.proofs.Common.{◌≡◌, ◌≢◌, ◌⊎◌, ◌↔◌, ℕ, ◌+◌, ◌-◌, ◌<◌, ◌≤◌, Bool, true, false, IsTrue, List, [], ◌∷◌, ◌++◌, length, map, take, drop, get_or, inl, inr, refl, ap, ◌∙◌, sym, subst, arith, append-nil, append_assoc, Option, Some, None, MatchOption}
 use Rattle.std.specs.Prelude.{slice_index_or}
 use Rattle.std.specs.List.{AllByRecursion}
-use Rattle.std.proofs.lemmas.Bool.{cases_lt}
 use Rattle.std.proofs.lemmas.List.{drop_more, take_rest, take_all, map-append}
 use Rattle.binding_terms.specs.Signature.{Signature}
 use Rattle.binding_terms.specs.declared.grammar.CatId.{CatId}
-use Rattle.rule_schemes.specs.Reading.{Token, word, punctuation, IsVariableOfFirst}
+use Rattle.rule_schemes.specs.Reading.{Token, word, punctuation, IsVariableWord, IsVariableOfFirst}
 use Rattle.rule_schemes.specs.NewNames.{TellsBrackets, at_end, no_bracket, open_bracket, TellsWords, comma, close_bracket, AreDifferentWords, IsTelling, FirstTells}
+use Rattle.rule_schemes.proofs.Firsts.{IsFirst_once}
 use Rattle.notation_parser.specs.Candidates.{StandsIn, TellsBehind, IsToldAfter}
 use Rattle.notation_parser.specs.declared.parameters.Told.{Told}
 
@@ -42,15 +42,6 @@ a_word sig w c [] ws cs v h = absurd h
 a_word sig w c (u ∷ ts) ws cs v (inl h) = subst (λ u. TellsWords sig (word w ∷ (u ∷ ts)) (w ∷ ws) (c ∷ cs)) (sym h.0) (comma v h.1)
 a_word sig w c (u ∷ ts) ws cs v (inr h) = subst (λ u. TellsWords sig (word w ∷ (u ∷ ts)) (w ∷ ws) (c ∷ cs)) (sym h.0) (close_bracket v h.1)
 
--- a word is a variable of one category
-one_variable : (sig : Signature) (c d : ℕ) (w : List ℕ) → IsVariableOfFirst sig c w → IsVariableOfFirst sig d w → c ≡ d
-one_variable sig c d w h k = go (cases_lt c d) (cases_lt d c)
-  where
-    go : (c < d) ⊎ (d ≤ c) → (d < c) ⊎ (c ≤ d) → c ≡ d
-    go (inl lt) which = absurd (k.first c lt h.here)
-    go (inr le) (inl lt) = absurd (h.first d lt k.here)
-    go (inr le) (inr ge) = omega (arith, le, ge)
-
 -- brackets tell one thing
 mutual
   pub brackets_once : {sig : Signature} {ts : List Token} {ws : List (List ℕ)} {cs : List ℕ} → TellsBrackets sig ts ws cs → (vs : List (List ℕ)) (ds : List ℕ) → TellsBrackets sig ts vs ds
@@ -75,7 +66,7 @@ mutual
       let more : (ws ≡ f.2) × (cs ≡ f.3) = behind f.2 f.3 (λ b. words_once h f.2 f.3 b) f.8 in
       let same : w ≡ f.0 = ap (λ (t : Token). t.1) f.4 in (
         ap (λ x. x ∷ ws) same ∙ ap (λ xs. f.0 ∷ xs) more.0 ∙ sym f.5,
-        ap (λ d. d ∷ cs) (one_variable sig c f.1 f.0 (subst (IsVariableOfFirst sig c) same v) f.7) ∙ ap (λ xs. f.1 ∷ xs) more.1 ∙ sym f.6,
+        ap (λ d. d ∷ cs) (IsFirst_once (λ d. IsVariableWord sig d f.0) c f.1 (subst (IsVariableOfFirst sig c) same v) f.7) ∙ ap (λ xs. f.1 ∷ xs) more.1 ∙ sym f.6,
       )
     where
       behind : (us : List (List ℕ)) (es : List ℕ) → (TellsWords sig rest us es → (ws ≡ us) × (cs ≡ es)) → TellsBehind sig (punctuation 44 ∷ rest) us es
@@ -87,7 +78,7 @@ mutual
       let more : (ws ≡ f.2) × (cs ≡ f.3) = behind f.2 f.3 (λ b. brackets_once h f.2 f.3 b) f.8 in
       let same : w ≡ f.0 = ap (λ (t : Token). t.1) f.4 in (
         ap (λ x. x ∷ ws) same ∙ ap (λ xs. f.0 ∷ xs) more.0 ∙ sym f.5,
-        ap (λ d. d ∷ cs) (one_variable sig c f.1 f.0 (subst (IsVariableOfFirst sig c) same v) f.7) ∙ ap (λ xs. f.1 ∷ xs) more.1 ∙ sym f.6,
+        ap (λ d. d ∷ cs) (IsFirst_once (λ d. IsVariableWord sig d f.0) c f.1 (subst (IsVariableOfFirst sig c) same v) f.7) ∙ ap (λ xs. f.1 ∷ xs) more.1 ∙ sym f.6,
       )
     where
       behind : (us : List (List ℕ)) (es : List ℕ) → (TellsBrackets sig rest us es → (ws ≡ us) × (cs ≡ es)) → TellsBehind sig (punctuation 93 ∷ rest) us es

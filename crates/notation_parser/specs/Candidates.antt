@@ -1,19 +1,14 @@
 -- The metavariables that a form may bring. Held against docs/notation.md on new names.
-use Rattle.std.specs.Prelude.{◌≡◌, ◌≢◌, ◌⊎◌, ◌++◌, ℕ, ◌<◌, List, [], ◌∷◌, map, Option, MatchOption, IsTrue, not}
+use Rattle.std.specs.Prelude.{◌≡◌, ◌≢◌, ◌⊎◌, ◌++◌, ℕ, List, [], ◌∷◌, map, Option, MatchOption, IsTrue, not}
 use Rattle.std.specs.List.{AllByRecursion}
 use Rattle.binding_terms.specs.Numbered.{AnyByRecursion}
 use Rattle.binding_terms.specs.Signature.{Signature}
 use Rattle.binding_terms.specs.declared.grammar.Cat.{Cat}
 use Rattle.scheme_terms.specs.declared.scheme.MetaDecl.{MetaDecl}
 use Rattle.rule_schemes.specs.Reading.{Token, word, punctuation, IsSpelling}
-use Rattle.rule_schemes.specs.NewNames.{TellsBrackets, TellsWords, AreInOrder, IsPlainSpelling, IsNewMeta}
+use Rattle.rule_schemes.specs.NewNames.{TellsBrackets, TellsWords, AreInOrder, IsNewMeta}
 use Rattle.term_reader.specs.Names.{NamesApart}
 use Rattle.notation_parser.specs.declared.parameters.Told.{Told}
-
--- the category, none of contexts, of which the word is a spelling: the first, where it is one of several
-pub record IsOfFirst (sig : Signature) (cat : ℕ) (w : List ℕ) : Type 0 where
-  pub here : IsPlainSpelling sig cat w
-  pub first : (earlier : ℕ) → earlier < cat → IsPlainSpelling sig earlier w → ⊥
 
 -- a spelling of this category, which is none of contexts
 abbrev pub IsPlainSpellingOf : Cat → List ℕ → Type 0

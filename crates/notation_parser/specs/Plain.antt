@@ -11,7 +11,7 @@ use Rattle.notation_parser.specs.Shapes.{KnownsApart}
 use Rattle.notation_parser.specs.Used.{KnownsStand}
 
 -- no category has variables, no two metavariables have one name, and no metavariable has parameters
-pub record NothingBinds (sig : Signature) (metas : List MetaDecl) : Type 0 where
+pub record HasNoVariablesNorParameters (sig : Signature) (metas : List MetaDecl) : Type 0 where
   pub variables : AllByRecursion (λ c. c.var ≡ None) sig.cats
   pub names : NamesApart metas
   pub parameters : AllByRecursion (λ m. m.params ≡ []) metas
@@ -36,7 +36,7 @@ pub record IsReadable (scope : ReadingScope) : Type 0 where
 -- Forms in which nothing binds: no judgment assumes a context, no variable is in scope, and no new name
 -- may stand in the form.
 pub record IsPlain (sig : Signature) (js : List Judgment) (scope : ReadingScope) (want : Want) : Type 0 where
-  pub nothing_binds : NothingBinds sig scope.names.metas
+  pub nothing_binds : HasNoVariablesNorParameters sig scope.names.metas
   pub judgments : AllByRecursion (λ j. j.ctx ≡ None) js
   pub knowns : scope.names.knowns ≡ []
   pub vars : scope.vars ≡ []

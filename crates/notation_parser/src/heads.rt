@@ -10,11 +10,11 @@ ghost use Rattle.notation_parser.specs.View.{freshness_of};
 
 use crate::knowns::known_number;
 use crate::shaping::{Entered, Shape, Start, entry_of};
-use binding_terms::{NoMemory, ProdId};
+use binding_terms::{NoMemory, ProdId, number};
 use rule_schemes::{Fresh, ReadScope};
 use sqlite_items::Items;
 use std::alloc::Global;
-use term_reader::{Meaning, Split, Var, number};
+use term_reader::{Meaning, Split, Var};
 
 /// Whether a known variable that is written may be a new one.
 pub fn is_head(fresh: Fresh) -> bool

@@ -15,12 +15,12 @@ ghost use Rattle.notation_parser.specs.View.{outcome, reading_scope};
 
 use crate::in_context::in_slots;
 use crate::outcomes::{Outcome, are_two, both};
-use binding_terms::{CatId, Item, NoMemory, ProdId};
+use binding_terms::{CatId, Item, NoMemory, ProdId, number};
 use rule_schemes::{JScheme, JudgId, Judgment, ReadScope, Written};
 use scheme_terms::{Root, SCtx, Scheme};
 use sqlite_items::Items;
 use std::alloc::Global;
-use term_reader::{Firsts, Head, Sheet, Var, bodies, in_splits, number, splits};
+use term_reader::{Firsts, Head, Sheet, Var, bodies, in_splits, splits};
 
 /// Whether no binder stands among the items.
 fn writes_nothing(items: &[Item]) -> bool

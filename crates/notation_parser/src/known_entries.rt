@@ -9,11 +9,11 @@ use crate::heads::{is_head, new_of_each};
 use crate::scope_entries::scope_of_each;
 use crate::shaping::{Shape, is_entry};
 use crate::spelling::is_other_spelling;
-use binding_terms::{CatId, Item, NoMemory, ProdId};
+use binding_terms::{CatId, Item, NoMemory, ProdId, number};
 use rule_schemes::ReadScope;
 use sqlite_items::Items;
 use std::alloc::Global;
-use term_reader::{Sheet, is_any_word, number, splits};
+use term_reader::{Sheet, is_any_word, splits};
 
 /// Whether the first token is a spelling of the category with a digit or prime.
 fn begins_newly(sheet: &Sheet<'_>, cat: CatId, from: usize, to: usize) -> bool

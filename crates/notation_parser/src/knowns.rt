@@ -8,11 +8,11 @@ ghost use Rattle.term_reader.specs.View.{in_scope};
 ghost use Rattle.notation_parser.specs.Knowns.{known_texts};
 
 use crate::copies::{text_again, texts_again};
-use binding_terms::{CatId, Item, NoMemory, ProdId, Sig, Text};
+use binding_terms::{CatId, Item, NoMemory, ProdId, Sig, Text, number};
 use scheme_terms::KnownDecl;
 use sqlite_items::{Items, at};
 use std::alloc::Global;
-use term_reader::{Meaning, Var, number};
+use term_reader::{Meaning, Var};
 
 /// The category of the item where it is a binder, and else the one before.
 fn later(cat: CatId, item: &Item) -> CatId

@@ -2,17 +2,18 @@
 ghost use Rattle.std.specs.Prelude.{◌≡◌, ◌≢◌, ◌↔◌, ℕ, IsTrue, IfOk, MatchOption, map};
 ghost use Rattle.std.specs.List.{AllByRecursion};
 ghost use Rattle.binding_terms.specs.Numbered.{AnyByRecursion};
-ghost use Rattle.rule_schemes.specs.NewNames.{IsPlainSpelling};
+ghost use Rattle.rule_schemes.specs.NewNames.{IsPlainSpelling, IsOfFirst};
 ghost use Rattle.term_reader.specs.View.{token};
-ghost use Rattle.notation_parser.specs.Candidates.{IsOfFirst, IsPlainSpellingOf, AreCandidates, IsNextCandidate};
+ghost use Rattle.notation_parser.specs.Candidates.{IsPlainSpellingOf, AreCandidates, IsNextCandidate};
 
-use crate::parameters::{first_telling, is_spelling, text_of};
-use binding_terms::{Cat, CatId, NoMemory, Sig};
+use crate::parameters::first_telling;
+use binding_terms::{Cat, CatId, NoMemory, Sig, Text, number};
 use proof_lexer::Token;
+use rule_schemes::{is_among, is_spelling, same_text};
 use scheme_terms::MetaDecl;
 use sqlite_items::Items;
 use std::alloc::Global;
-use term_reader::{is_any_word, number};
+use term_reader::is_any_word;
 
 /// Whether the word is a spelling of the category, which is none of contexts.
 fn is_plain_spelling(cat: &Cat, word: &[u8]) -> bool
@@ -35,34 +36,16 @@ fn category(sig: &Sig, word: &[u8]) -> Result<Option<CatId>, NoMemory>
     Ok(None)
 }
 
-fn is_named(decl: &MetaDecl, name: &[u8]) -> bool
-    ensures { IsTrue result ↔ (decl.now.name ≡ name.now) }
-{
-    decl.name.bytes() == name
-}
-
 /// Whether no metavariable has that name.
 fn is_new(metas: &[MetaDecl], name: &[u8]) -> bool
     ensures { IsTrue result ↔ AllByRecursion (λ m. m.name ≢ name.now) metas.now }
 {
     for decl in metas {
-        if is_named(decl, name) {
+        if same_text(decl.name.bytes(), name) {
             return false;
         }
     }
     true
-}
-
-/// Whether some metavariable has that name.
-fn is_among(metas: &[MetaDecl], name: &[u8]) -> bool
-    ensures { IsTrue result ↔ AnyByRecursion (λ m. m.name ≡ name.now) metas.now }
-{
-    for decl in metas {
-        if is_named(decl, name) {
-            return true;
-        }
-    }
-    false
 }
 
 /// The new metavariable whose name the token is, if any.
@@ -91,7 +74,7 @@ fn candidate(
         Some(cat) => match first_telling(alloc, sig, name, tokens)? {
             None => Ok(None),
             Some(params) => Ok(Some(MetaDecl {
-                name: text_of(alloc, name)?,
+                name: Text::of(alloc, name)?,
                 cat,
                 params,
             })),

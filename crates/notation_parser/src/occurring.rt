@@ -2,44 +2,21 @@
 ghost use Rattle.std.specs.Prelude.{◌≡◌, ◌↔◌, ◌+◌, IsTrue, IfOk, length, map};
 ghost use Rattle.binding_terms.specs.Numbered.{AnyByRecursion, AllNumbered};
 ghost use Rattle.scheme_terms.specs.SchemeTree.{OccursIn};
-ghost use Rattle.scheme_terms.specs.View.{scheme, scheme_entry, known_variable};
-ghost use Rattle.rule_schemes.specs.Said.{OccursInEntries, OccursInWritten};
+ghost use Rattle.scheme_terms.specs.View.{scheme_entry, known_variable};
+ghost use Rattle.rule_schemes.specs.Said.{OccursInWritten};
 ghost use Rattle.notation_parser.specs.Renaming.{OccursInKnowns, OccursInWanted};
 ghost use Rattle.notation_parser.specs.View.{written};
 
-use binding_terms::NoMemory;
-use rule_schemes::Written;
-use scheme_terms::{KnownDecl, MetaId, SEntry, Scheme, occurs_in};
+use binding_terms::{NoMemory, number};
+use rule_schemes::{Written, occurs_in_any, occurs_in_entries, occurs_in_judgment};
+use scheme_terms::{KnownDecl, MetaId, SEntry, occurs_in};
 use sqlite_items::Items;
 use std::alloc::Global;
-use term_reader::number;
-
-fn in_schemes(m: MetaId, schemes: &[Scheme]) -> bool
-    ensures { IsTrue result ↔ AnyByRecursion (OccursIn m.0) (map scheme schemes.now) }
-{
-    for one in schemes {
-        if occurs_in(m, one) {
-            return true;
-        }
-    }
-    false
-}
 
 fn in_entry(m: MetaId, entry: &SEntry) -> bool
     ensures { IsTrue result ↔ AnyByRecursion (OccursIn m.0) (scheme_entry entry.now).args }
 {
-    in_schemes(m, entry.args.as_slice())
-}
-
-fn in_entries(m: MetaId, entries: &[SEntry]) -> bool
-    ensures { IsTrue result ↔ OccursInEntries m.0 (map scheme_entry entries.now) }
-{
-    for entry in entries {
-        if in_entry(m, entry) {
-            return true;
-        }
-    }
-    false
+    occurs_in_any(m, entry.args.as_slice())
 }
 
 fn in_knowns(m: MetaId, knowns: &[KnownDecl]) -> bool
@@ -58,11 +35,8 @@ fn in_written(m: MetaId, form: &Written) -> bool
 {
     match form {
         Written::Term(term) => occurs_in(m, term),
-        Written::Judgment(judgment) => {
-            in_entries(m, judgment.ctx.entries.as_slice())
-                || in_schemes(m, judgment.args.as_slice())
-        }
-        Written::Context(context) => in_entries(m, context.entries.as_slice()),
+        Written::Judgment(judgment) => occurs_in_judgment(m, judgment),
+        Written::Context(context) => occurs_in_entries(m, context.entries.as_slice()),
     }
 }
 

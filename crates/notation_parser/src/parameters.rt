@@ -6,52 +6,18 @@ ghost use Rattle.rule_schemes.specs.NewNames.{TellsBrackets, TellsWords, AreDiff
 ghost use Rattle.term_reader.specs.View.{token};
 ghost use Rattle.notation_parser.specs.Candidates.{TellsBehind, IsToldAfter};
 
-use binding_terms::{Cat, CatId, NoMemory, Sig, Text};
+use binding_terms::{Cat, CatId, NoMemory, Sig, Text, number};
 use proof_lexer::{Kind, Token};
+use rule_schemes::{is_spelling, same_text};
 use sqlite_items::Items;
 use std::alloc::Global;
-use term_reader::{is_any_word, is_word, number};
+use term_reader::{is_any_word, is_word};
 
 /// Words that stand in brackets, with the categories of which they are variables.
 #[derive(Drop)]
 pub struct Told {
     pub words: Items<Text>,
     pub cats: Items<CatId>,
-}
-
-fn is_ending(byte: u8) -> bool
-    ensures { IsTrue result ↔ IsEnding byte }
-{
-    byte.is_ascii_digit() || byte == b'\''
-}
-
-fn are_endings(bytes: &[u8]) -> bool
-    ensures { IsTrue result ↔ AllByRecursion IsEnding bytes.now }
-{
-    for &byte in bytes {
-        if !is_ending(byte) {
-            return false;
-        }
-    }
-    true
-}
-
-/// What follows a name in a word that begins with it.
-fn behind_name<'a>(name: &[u8], word: &'a [u8]) -> Option<&'a [u8]>
-    ensures { MatchOption result ((ending : List ℕ) → word.now ≡ name.now ++ ending → ⊥)
-        (λ ending. word.now ≡ name.now ++ ending.now) }
-{
-    word.strip_prefix(name)
-}
-
-/// Whether a word is a spelling of a name: the name followed by digits and primes.
-pub fn is_spelling(name: &[u8], word: &[u8]) -> bool
-    ensures { IsTrue result ↔ IsSpelling name.now word.now }
-{
-    match behind_name(name, word) {
-        Some(ending) => are_endings(ending),
-        None => false,
-    }
 }
 
 /// Whether the word is a spelling of the category's variable.
@@ -85,15 +51,6 @@ fn is_punctuation(code: u8, t: &Token<'_>) -> bool
     t.kind == Kind::Punct && t.text.as_bytes() == [code].as_slice()
 }
 
-/// The text again.
-pub fn text_of(alloc: Global, bytes: &[u8]) -> Result<Text, NoMemory>
-    ensures { IfOk result (λ text. text ≡ bytes.now) }
-{
-    let mut text = Text::new(alloc);
-    text.push(bytes)?;
-    Ok(text)
-}
-
 /// One word more.
 fn with_word(alloc: Global, told: Told, word: &[u8], cat: CatId) -> Result<Told, NoMemory>
     ensures { IfOk result
@@ -101,7 +58,7 @@ fn with_word(alloc: Global, told: Told, word: &[u8], cat: CatId) -> Result<Told,
 {
     let mut words = told.words;
     let mut cats = told.cats;
-    words.push(text_of(alloc, word)?)?;
+    words.push(Text::of(alloc, word)?)?;
     cats.push(cat)?;
     Ok(Told { words, cats })
 }
@@ -213,17 +170,11 @@ fn mark(
     Ok(None)
 }
 
-fn same_text(one: &Text, other: &Text) -> bool
-    ensures { IsTrue result ↔ (one.now ≡ other.now) }
-{
-    one.bytes() == other.bytes()
-}
-
 fn is_other(one: &Text, words: &[Text]) -> bool
     ensures { IsTrue result ↔ AllByRecursion (λ v. one.now ≡ v → ⊥) words.now }
 {
     for word in words {
-        if same_text(one, word) {
+        if same_text(one.bytes(), word.bytes()) {
             return false;
         }
     }

@@ -7,11 +7,11 @@ ghost use Rattle.notation_parser.specs.View.{reading_scope, wanted};
 
 use crate::new_names::candidates;
 use crate::over::read_over;
-use crate::used::{decl_again, tell};
+use crate::used::tell;
 use binding_terms::{NoMemory, Sig};
 use proof_lexer::Token;
 use rule_schemes::{Fresh, Judgment, ReadScope, Reading, Want};
-use scheme_terms::MetaDecl;
+use scheme_terms::{MetaDecl, copy_meta};
 use sqlite_items::Items;
 use std::alloc::Global;
 
@@ -40,7 +40,7 @@ fn put_all(alloc: Global, all: &mut Items<MetaDecl>, more: &[MetaDecl]) -> Resul
     ensures { OnOk result (all.new ≡ all.old ++ more.now) }
 {
     for decl in more {
-        all.push(decl_again(alloc, decl)?)?;
+        all.push(copy_meta(alloc, decl)?)?;
     }
     Ok(())
 }

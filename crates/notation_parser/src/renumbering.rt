@@ -9,13 +9,11 @@ ghost use Rattle.notation_parser.specs.Used as used;
 ghost use Rattle.notation_parser.specs.Used.{moved};
 ghost use Rattle.notation_parser.specs.View.{written};
 
-use crate::parameters::text_of;
-use binding_terms::NoMemory;
+use binding_terms::{NoMemory, Text, number};
 use rule_schemes::{JScheme, Written};
 use scheme_terms::{KnownDecl, MetaId, SArg, SCtx, SEntry, Scheme};
 use sqlite_items::Items;
 use std::alloc::Global;
-use term_reader::number;
 
 /// How many marks stand before the place.
 fn marks_before(marks: &[bool], at: usize) -> usize
@@ -223,7 +221,7 @@ fn known_again(
     ensures { IfOk result
         (λ new. known_variable new ≡ renamed_known (moved first_new (used.marks_before marks.now)) (known_variable known.now)) }
 {
-    let name = text_of(alloc, known.name.bytes())?;
+    let name = Text::of(alloc, known.name.bytes())?;
     let entry = entry_again(alloc, first_new, marks, &known.entry)?;
     Ok(KnownDecl { name, entry })
 }

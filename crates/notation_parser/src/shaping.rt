@@ -9,11 +9,11 @@ ghost use Rattle.notation_parser.specs.ContextCases.{BeginsWith, IsEntryOver, Is
 ghost use Rattle.notation_parser.specs.View.{reading_scope};
 
 use crate::known_entries::known_shapes;
-use binding_terms::{CatId, Item, NoMemory, ProdId};
+use binding_terms::{CatId, Item, NoMemory, ProdId, number};
 use rule_schemes::ReadScope;
 use sqlite_items::{Items, at};
 use std::alloc::Global;
-use term_reader::{Piece, Sheet, Split, Var, is_word, number, splits};
+use term_reader::{Piece, Sheet, Split, Var, is_word, splits};
 
 /// An entry as it is split over the tokens: its production, how many tokens the context before it has, its variable, its slots.
 #[derive(Drop)]

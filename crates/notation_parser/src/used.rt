@@ -14,24 +14,13 @@ ghost use Rattle.notation_parser.specs.View.{written, what_is_said, outcome};
 
 use crate::occurring::marks_of;
 use crate::outcomes::Outcome;
-use crate::parameters::text_of;
 use crate::renumbering::{knowns_again, written_again};
 use binding_terms::NoMemory;
 use rule_schemes::{Reading, Said, Written};
-use scheme_terms::{KnownDecl, MetaDecl};
+use scheme_terms::{KnownDecl, MetaDecl, copy_meta};
 use sqlite_items::Items;
 use std::alloc::Global;
 use term_reader::Firsts;
-
-pub fn decl_again(alloc: Global, decl: &MetaDecl) -> Result<MetaDecl, NoMemory>
-    ensures { IfOk result (λ new. new ≡ decl.now) }
-{
-    Ok(MetaDecl {
-        name: text_of(alloc, decl.name.bytes())?,
-        cat: decl.cat,
-        params: Items::from_slice(alloc, decl.params.as_slice())?,
-    })
-}
 
 /// The metavariables with a mark.
 fn chosen(
@@ -45,7 +34,7 @@ fn chosen(
     let mut all = Items::new(alloc);
     for i in 0..candidates.len() {
         if marks[i] {
-            all.push(decl_again(alloc, &candidates[i])?)?;
+            all.push(copy_meta(alloc, &candidates[i])?)?;
         }
     }
     Ok(all)

@@ -18,14 +18,14 @@ use Rattle.outline_reader.specs.Derives.{level, whole}
 use Rattle.outline_reader.specs.Limits.{nothing_counted, counted}
 use Rattle.outline_reader.specs.Machine.{take}
 use Rattle.outline_reader.specs.Reading.{Answer, read, roles, with_roles, first_fault}
-use Rattle.outline_reader.specs.Outline.{IsAnswer, IsFault, IsOutline}
+use Rattle.outline_reader.specs.Outline.{IsFault, IsOutline}
 use Rattle.outline_reader.specs.declared.parts.Outline.{Outline}
 use Rattle.outline_reader.specs.declared.parts.Portion.{Portion}
 use Rattle.outline_reader.specs.Plain.{PlainPortion, plain_portion, outlined, HasPortions}
 use Rattle.outline_reader.specs.Views.{Piece, portion_view}
 use Rattle.outline_reader.proofs.UniqueLemmas.{portions_unique}
 use Rattle.outline_reader.proofs.ReadingLemmas.{seen_as}
-use Rattle.outline_reader.proofs.AnswerLemmas.{answer_is_read, read_is_answer}
+use Rattle.outline_reader.proofs.AnswerLemmas.{answer_is_read}
 use Rattle.outline_reader.proofs.FieldLemmas.{placeless, all_placeless}
 use Rattle.sy_base.specs.declared.fault.Code.{Code}
 use Rattle.sy_base.specs.declared.fault.Code.TheVariants as variant
@@ -39,7 +39,7 @@ use Rattle.sy_base.specs.declared.fault.Refusal.TheVariants.{Refused, NoMemory a
 use Rattle.binding_terms.specs.Signature.{Signature}
 use Rattle.proof_check.specs.File.{IsRightFile, IsSomeRight, IsGrammarFile}
 use Rattle.proof_check.specs.NotBuilt.{IsNotBuilt, by_its_token, of_a_judgment, HasNotBuilt, IsFirstNotBuilt}
-use Rattle.proof_check.specs.Faults.{IsToldAt, IsToldOn, IsOutlineTold, HasOutlineFault, IsFirstFault, of_tokens, of_outline, of_not_built, of_grammar, fault_place, fault_code, fault_lines, IsFaultText, HasNoFaultYet, IsRefusedWith}
+use Rattle.proof_check.specs.Faults.{IsToldAt, IsToldOn, IsOutlineTold, HasOutlineFault, IsFirstFault, of_tokens, of_outline, of_not_built, of_grammar, fault_place, fault_code, HasNoFaultYet, IsRefusedWith}
 use Rattle.proof_check.proofs.TokenLemmas.{one_first_not_built}
 use Rattle.proof_check.proofs.GrammarLemmas.{one_grammar_fault}
 
@@ -98,11 +98,6 @@ same_roles tokens others same_views =
     let same : all_placeless tokens ≡ all_placeless others =
     all_placeless_of_view tokens ∙ ap (map of_view) same_views ∙ sym (all_placeless_of_view others) in
     sym (roles_placeless tokens) ∙ ap roles same ∙ roles_placeless others
-
--- tokens with equal views have the same fault
-pub fault_of_others : (tokens others : List Token) (fault : OutlineFault) → map token_view tokens ≡ map token_view others → IsFault tokens fault → IsFault others fault
-fault_of_others tokens others fault same is =
-    subst (λ (answer : Answer). IsAnswer others answer) (sym (same_roles tokens others same) ∙ answer_is_read tokens (Err fault) is) (read_is_answer others)
 
 err_one : (x y : OutlineFault) → (let a : Answer = Err x in a) ≡ Err y → x ≡ y
 err_one x y e = cc
@@ -232,12 +227,6 @@ first_is_one source line other spelling others detail others_detail (of_grammar 
     let told = one_grammar_fault source portions has line other code other_code detail others_detail first
     (subst (λ (ps : List PlainPortion). IsFirstOfGrammar ps other other_code others_detail) (sym same) second) in
     (told.0, is ∙ ap code_name told.1 ∙ sym other_is, told.2)
-
--- a source has one text of its first fault
-pub one_fault_text : (source text other : List ℕ) → IsFaultText source text → IsFaultText source other → other ≡ text
-one_fault_text source text other is other_is =
-    let same = first_is_one source other_is.line is.line other_is.spelling is.spelling other_is.detail is.detail other_is.first is.first in
-    other_is.lines ∙ (λ i. fault_lines source (same.0 i) (same.1 i) (same.2 i)) ∙ sym is.lines
 
 -- ---- no first fault
 

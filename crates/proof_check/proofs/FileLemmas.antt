@@ -12,14 +12,12 @@ use Rattle.rule_schemes.specs.Reading.{ReadingScope}
 use Rattle.rule_schemes.specs.Said.{want_judgment}
 use Rattle.rule_schemes.specs.Statement.{Theorem}
 use Rattle.term_reader.specs.Names.{NamesApart}
-use Rattle.notation_parser.specs.Plain.{NothingBinds, IsPlain}
+use Rattle.notation_parser.specs.Plain.{HasNoVariablesNorParameters, IsPlain}
 use Rattle.core_proofs.specs.Step.{Step, begin_theorem}
 use Rattle.core_proofs.specs.Proof.{IsProofScope}
 use Rattle.judgments.specs.Written.{settled}
-use Rattle.outline_reader.specs.declared.parts.Portion.{Portion}
 use Rattle.outline_reader.specs.declared.parts.Portion.TheVariants as portion
-use Rattle.outline_reader.specs.Views.{portion_view}
-use Rattle.outline_reader.specs.Plain.{PlainPortion, terminals, syntax_word, category, judgment_of, rule_of, theorem_of, step_of, inversion, case_rule, case_term, end_line, plain_portion}
+use Rattle.outline_reader.specs.Plain.{PlainPortion, terminals, syntax_word, category, judgment_of, rule_of, theorem_of, step_of, inversion, case_rule, case_term, end_line}
 use Rattle.proof_check.specs.Finding.{Finds, Begins}
 use Rattle.proof_check.specs.Plain.{ArePlainStatements}
 use Rattle.proof_check.specs.Steps.{HoldsNoProof, BeginsProof, AreStepsFrom, AreProofSteps}
@@ -33,7 +31,7 @@ apart_front (x ∷ xs) ys apart = (all_front (λ (n : MetaDecl). x.name ≢ n.na
 pub plain_reading : (th : Theory) (sts : List Theorem) (k : ℕ) (st : Theorem) (scope : Names) (reading : ReadingScope) → ArePlainStatements th sts → slice_get sts k ≡ Some st → IsProofScope st scope →
     reading ≡ settled scope → IsPlain th.sig th.judgments reading want_judgment
 plain_reading th sts k st scope reading plain here is same =
-    let binds : NothingBinds th.sig st.scope.metas = all_at (λ (st : Theorem). NothingBinds th.sig st.scope.metas) sts k st plain.nothing_binds here in
+    let binds : HasNoVariablesNorParameters th.sig st.scope.metas = all_at (λ (st : Theorem). HasNoVariablesNorParameters th.sig st.scope.metas) sts k st plain.nothing_binds here in
     let settled_plain : IsPlain th.sig th.judgments (settled scope) want_judgment = record {
       nothing_binds = record {
         variables = binds.variables;
@@ -84,22 +82,6 @@ other_turn th sts k (inversion first subject premises name conclusion) portions 
 other_turn th sts k (case_rule first premises name conclusion) portions none = absurd none
 other_turn th sts k (case_term first form assumes) portions none = absurd none
 other_turn th sts k (end_line first part) portions none = absurd none
-
--- a portion of a proof stands for nothing outside of proofs
-pub misplaced : (th : Theory) (sts : List Theorem) (k : ℕ) (p : Portion) (portions : List PlainPortion) →
-    ((first : _) (joined : _) (kind : _) (name : _) (assumes : _) (inputs : _) (outputs : _) (targets : _) → p ≡ portion.Theorem first joined kind name assumes inputs outputs targets → ⊥) →
-    (HoldsNoProof (plain_portion (portion_view p)) → ⊥) → (all : List Step) → AreStepsFrom th sts k (plain_portion (portion_view p) ∷ portions) all → ⊥
-misplaced th sts k (portion.Terminals first items) portions no_theorem holds all h = holds tt
-misplaced th sts k (portion.Syntax first) portions no_theorem holds all h = holds tt
-misplaced th sts k (portion.Category name mark productions) portions no_theorem holds all h = holds tt
-misplaced th sts k (portion.Judgment first name form assumes) portions no_theorem holds all h = holds tt
-misplaced th sts k (portion.Rule premises name conclusion) portions no_theorem holds all h = holds tt
-misplaced th sts k (portion.Theorem first joined kind name assumes inputs outputs targets) portions no_theorem holds all h = no_theorem first joined kind name assumes inputs outputs targets refl
-misplaced th sts k (portion.Step first names forms why) portions no_theorem holds all h = h.0
-misplaced th sts k (portion.Inversion first subject premises name conclusion) portions no_theorem holds all h = h.0
-misplaced th sts k (portion.CaseRule first premises name conclusion) portions no_theorem holds all h = h.0
-misplaced th sts k (portion.CaseTerm first form assumes) portions no_theorem holds all h = h.0
-misplaced th sts k (portion.End first part) portions no_theorem holds all h = h.0
 
 -- the statement that stands at a place
 pub statement_at : (sts : List Statement) (k : ℕ) (o : Option (Bor Statement)) (s : Bor Statement) → option_copied o ≡ slice_get sts k → o ≡ Some s →

@@ -1,12 +1,9 @@
 -- Lists that begin with what was found.
-use Rattle.std.proofs.Common.{◌≡◌, ◌<◌, ◌+◌, ℕ, List, [], ◌∷◌, ◌++◌, Some, None, ◌≤◌, length, get_or, drop, refl, sym, ap, subst, ◌∙◌, append_assoc}
+use Rattle.std.proofs.Common.{◌≡◌, ◌<◌, ◌+◌, ℕ, List, [], ◌∷◌, ◌++◌, Some, None, ◌≤◌, length, get_or, drop, sym, ap, subst, ◌∙◌, append_assoc}
 use Rattle.std.proofs.lemmas.List.{append-nil, drop_more}
 use Rattle.std.specs.List.{AllZip}
 use Rattle.proof_check.specs.Finding.{Finds, Begins}
 use Rattle.binding_terms.proofs.Lists.{zip_empty}
-
-pub begins_at_start : {A : Type 0} (P : List A → Type 0) → Begins P P []
-begins_at_start P = record { sound = λ rest h. h; complete = λ all h. (all, refl, h) }
 
 pub begins_then : {A : Type 0} (P Q R : List A → Type 0) (f g : List A) → Begins P Q f → Begins Q R g → Begins P R (f ++ g)
 begins_then P Q R f g a b = record {

@@ -4,8 +4,7 @@ use Rattle.std.proofs.Common.{◌≡◌, ◌↔◌, ◌⊎◌, ◌<◌, ◌≤�
 use Rattle.std.specs.Prelude.{codes}
 use Rattle.std.proofs.lemmas.Bool.{cases_lt}
 use Rattle.sy_base.specs.Tokens.{PlainToken}
-use Rattle.user_grammar.specs.Production.{IsMark}
-use Rattle.proof_check.specs.NotBuilt.{IsWord, IsUnbuiltWord, IsReservedWord, IsName, IsCallee, BeginsWithColon, EndsInSyntax, the_word, another, EndsWith, IsUnbuiltAt, a_word, a_bracket, behind_by, syntax_input}
+use Rattle.proof_check.specs.NotBuilt.{IsWord, IsReservedWord, EndsInSyntax, the_word, another, EndsWith, IsUnbuiltAt}
 use Rattle.proof_check.specs.Places.{NoneAmongFirst}
 use Rattle.binding_terms.proofs.Lists.{nothing_pushed, same_last, same_split}
 
@@ -13,10 +12,6 @@ use Rattle.binding_terms.proofs.Lists.{nothing_pushed, same_last, same_split}
 
 syntax_reserved : (token : PlainToken) → IsWord (codes "syntax") token → IsReservedWord token
 syntax_reserved token is = record { word = is.0; among = inr (inl (sym is.1)) }
-
-pub none_in_syntax : EndsInSyntax [] → ⊥
-none_in_syntax (the_word before word split is) = nothing_pushed before word split
-none_in_syntax (another before token split not_reserved ends) = nothing_pushed before token split
 
 pub none_before : (word : List ℕ) → EndsWith word [] → ⊥
 none_before word ends = nothing_pushed ends.before ends.last ends.split
@@ -44,29 +39,6 @@ pub behind_another : (tokens : List PlainToken) (token : PlainToken) → (IsRese
 behind_another tokens token not_reserved = (another tokens token refl not_reserved, behind_other tokens token not_reserved)
 
 -- ---- the places of forms that are not built
-
-abbrev pub IsOneOfThese : (front : List PlainToken) (token : PlainToken) (rest : List PlainToken) → Type 0
-IsOneOfThese front token rest =
-    IsUnbuiltWord token ⊎ (IsMark 91 token × (EndsInSyntax front → ⊥)) ⊎ (EndsWith (codes "by") front × IsCallee token)
-    ⊎ (EndsWith (codes "forall") front × IsName token × (BeginsWithColon rest → ⊥))
-
-pub to_these : (front : List PlainToken) (token : PlainToken) (rest : List PlainToken) → IsUnbuiltAt front token rest → IsOneOfThese front token rest
-to_these front token rest (a_word is) = inl is
-to_these front token rest (a_bracket is out) = inr (inl (is, out))
-to_these front token rest (behind_by by is) = inr (inr (inl (by, is)))
-to_these front token rest (syntax_input behind is no_colon) = inr (inr (inr (behind, is, no_colon)))
-
-pub from_these : (front : List PlainToken) (token : PlainToken) (rest : List PlainToken) → IsOneOfThese front token rest → IsUnbuiltAt front token rest
-from_these front token rest (inl is) = a_word is
-from_these front token rest (inr (inl is)) = a_bracket is.0 is.1
-from_these front token rest (inr (inr (inl is))) = behind_by is.0 is.1
-from_these front token rest (inr (inr (inr is))) = syntax_input is.0 is.1 is.2
-
-pub none_among_none : (tokens : List PlainToken) → NoneAmongFirst tokens 0
-none_among_none tokens front rest token split lt unbuilt = absurd (not_below (length front) lt)
-  where
-    not_below : (n : ℕ) → n < 0 → ⊥
-    not_below n lt = (omega arith)
 
 pub none_among_more : (tokens front rest : List PlainToken) (token : PlainToken) → tokens ≡ front ++ token ∷ rest → NoneAmongFirst tokens (length front) →
     (IsUnbuiltAt front token rest → ⊥) → NoneAmongFirst tokens (length (front ++ token ∷ []))

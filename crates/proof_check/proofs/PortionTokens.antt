@@ -1,8 +1,7 @@
 -- The tokens of the portions of a source are tokens of the source.
 use native.Mathlib.Omega.{arith}
-use Rattle.std.proofs.Common.{◌≡◌, ◌⊎◌, ◌<◌, ℕ, zero, suc, Bool, true, false, ◌||◌, List, [], ◌∷◌, ◌++◌, length, map, take, drop, Some, inl, inr, refl, sym, ap, subst, ◌∙◌, option_map}
+use Rattle.std.proofs.Common.{◌≡◌, ◌⊎◌, ℕ, Bool, true, false, ◌||◌, List, [], ◌∷◌, ◌++◌, map, take, drop, Some, inl, inr, refl, sym, ap, subst, ◌∙◌, option_map}
 use Rattle.std.specs.Prelude.{if◌then◌else◌}
-use Rattle.std.specs.List.{slice_index_or}
 use Rattle.binding_terms.specs.Numbered.{AnyByRecursion}
 use Rattle.sy_base.specs.Tokens.{PlainToken}
 use Rattle.proof_lexer.specs.View.{token_view}

@@ -1,6 +1,5 @@
 -- The steps of a proof, portion by portion.
-use Rattle.std.proofs.Common.{◌≡◌, ◌<◌, ◌+◌, ℕ, suc, List, [], ◌∷◌, ◌++◌, Option, Some, None, unwrap_or, length, get_or, drop, refl, sym, ap, subst, ◌∙◌, inl, inr, append_assoc}
-use Rattle.std.proofs.lemmas.List.{append-nil}
+use Rattle.std.proofs.Common.{◌≡◌, ◌<◌, ◌+◌, ℕ, suc, List, [], ◌∷◌, ◌++◌, Option, Some, None, unwrap_or, length, get_or, drop, refl, ap, subst, ◌∙◌, inl, inr, append_assoc}
 use Rattle.scheme_terms.specs.Forms.{Names}
 use Rattle.rule_schemes.specs.Rules.{Theory}
 use Rattle.rule_schemes.specs.Statement.{Theorem}
@@ -11,7 +10,7 @@ use Rattle.outline_reader.specs.Plain.{PlainPortion, terminals, syntax_word, cat
 use Rattle.proof_check.specs.Finding.{Finds, Begins, Adds}
 use Rattle.proof_check.specs.Steps.{MadeStep, StandsFor, IsProofEnd, AreStepsFrom, AreProofSteps}
 use Rattle.proof_check.specs.View.{plain_portions}
-use Rattle.proof_check.proofs.FindingLemmas.{begins_at_start, begins_then}
+use Rattle.proof_check.proofs.FindingLemmas.{begins_then}
 use Rattle.binding_terms.proofs.Lists.{drop_from}
 
 pub adds_then : {A : Type 0} (old mid new g : List A) (P Q R : List A → Type 0) → Adds old mid P Q → new ≡ mid ++ g → Begins Q R g → Adds old new P R
@@ -63,10 +62,6 @@ module _ (th : Theory) (sts : List Theorem) (k : ℕ) (st : Theorem) (scope : Na
   pub end_turn : (line : ℕ) → Finds (IsProofEnd p) (Some line) →
       Begins (AreProofSteps th sts k st scope named last (p ∷ portions)) (AreStepsFrom th sts (suc k) portions) (end_theorem (unwrap_or last line) ∷ [])
   end_turn line f = record { sound = λ rest h. inl (line, rest, f.0, refl, h); complete = end_whole line f }
-
--- a list that an empty one follows, or nothing
-pub adds_nothing : {A : Type 0} (old : List A) (P : List A → Type 0) → Adds old old P P
-adds_nothing old P = ([], sym (append-nil old), begins_at_start P)
 
 -- the portions from a place on
 pub seen_at : (portions : List Portion) (i : ℕ) (p : Portion) (plain : PlainPortion) → i < length portions → p ≡ get_or portions i p → plain_portion (portion_view p) ≡ plain →

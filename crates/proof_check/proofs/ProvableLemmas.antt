@@ -1,5 +1,5 @@
 -- The statements of a file can be proved.
-use Rattle.std.proofs.Common.{◌≡◌, ◌≢◌, ◌⊎◌, ℕ, suc, ◌+◌, List, [], ◌∷◌, ◌++◌, length, map, inl, inr, refl, sym, ap, subst, arith}
+use Rattle.std.proofs.Common.{◌≡◌, ◌≢◌, ◌⊎◌, ℕ, ◌+◌, List, [], ◌∷◌, ◌++◌, length, map, inl, inr, refl, sym, ap, subst, arith}
 use Rattle.std.specs.List.{AllByRecursion, AllZip}
 use Rattle.binding_terms.specs.Numbered.{AllNumbered}
 use Rattle.scheme_terms.specs.SchemeScope.{AreDifferentNames}
@@ -7,7 +7,7 @@ use Rattle.scheme_terms.specs.declared.scheme.MetaDecl.{MetaDecl}
 use Rattle.rule_schemes.specs.Rules.{Theory}
 use Rattle.rule_schemes.specs.Statement.{StatementInput, given, syntax_input, Theorem, IsOfInputs, IsOfOutputs}
 use Rattle.term_reader.specs.Names.{NamesApart}
-use Rattle.notation_parser.specs.Plain.{NothingBinds}
+use Rattle.notation_parser.specs.Plain.{HasNoVariablesNorParameters}
 use Rattle.judgments.specs.Bare.{IsBareTheory, IsBareStatement, IsGivenInput}
 use Rattle.judgments.specs.Texts.{TheoremText}
 use Rattle.judgments.specs.Statements.{IsTheoremOf}
@@ -65,7 +65,7 @@ all_provable th (text ∷ texts) [] h bare ones = absurd h
 all_provable th (text ∷ texts) (st ∷ sts) h bare ones = (provable_of th text st h.0 bare.0 ones.0, all_provable th texts sts h.1 bare.1 ones.1)
 
 -- nothing binds over a bare statement of a bare theory
-binds_nothing : (th : Theory) (text : TheoremText) (st : Theorem) → IsBareTheory th → IsTheoremOf th text st → IsBareStatement st → NothingBinds th.sig st.scope.metas
+binds_nothing : (th : Theory) (text : TheoremText) (st : Theorem) → IsBareTheory th → IsTheoremOf th text st → IsBareStatement st → HasNoVariablesNorParameters th.sig st.scope.metas
 binds_nothing th text st bare_theory is bare = record {
   variables = bare_theory.sig.variables;
   names = names_apart st.scope.metas _ (ap (map (λ k. k.name)) is.scope.1) is.scope.2;
@@ -73,7 +73,7 @@ binds_nothing th text st bare_theory is bare = record {
 }
 
 all_bind_nothing : (th : Theory) (texts : List TheoremText) (sts : List Theorem) → IsBareTheory th → AllZip (IsTheoremOf th) texts sts → AllByRecursion IsBareStatement sts
-    → AllByRecursion (λ st. NothingBinds th.sig st.scope.metas) sts
+    → AllByRecursion (λ st. HasNoVariablesNorParameters th.sig st.scope.metas) sts
 all_bind_nothing th [] [] bare_theory h bare = tt
 all_bind_nothing th [] (st ∷ sts) bare_theory h bare = absurd h
 all_bind_nothing th (text ∷ texts) [] bare_theory h bare = absurd h

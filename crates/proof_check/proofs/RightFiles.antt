@@ -20,7 +20,6 @@ use Rattle.core_proofs.specs.Step.{Step}
 use Rattle.core_proofs.specs.Kept.{Kept, kept_theory, kept_statements, kept_steps}
 use Rattle.core_proofs.specs.Proof.{Proves}
 use Rattle.user_grammar.specs.Grammar.{IsSignatureOf}
-use Rattle.user_grammar.specs.Laws.{SignaturesAreUnique}
 use Rattle.judgments.specs.Bare.{IsBareTheory, IsBareStatement}
 use Rattle.judgments.specs.Theory.{IsTheoryOf}
 use Rattle.judgments.specs.Statements.{AreStatementsOf}
@@ -34,10 +33,6 @@ pub only_as : (P Q : Theory → List Theorem → List Step → Type 0) (found : 
     → ((th : Theory) (sts : List Theorem) (steps : List Step) → Q th sts steps → P th sts steps) → IsOnlyFile P found → IsOnlyFile Q found
 only_as P Q None there back never = λ th sts steps is. never th sts steps (back th sts steps is)
 only_as P Q (Some kept) there back only = (there _ _ _ only.0, λ th sts steps is. only.1 th sts steps (back th sts steps is))
-
--- nothing is found where there is none
-pub none_as : (P : Theory → List Theorem → List Step → Type 0) → ((th : Theory) (sts : List Theorem) (steps : List Step) → P th sts steps → ⊥) → IsOnlyFile P None
-none_as P never = never
 
 -- the portions of a source stand for what the source is
 pub right_there : (source : List ℕ) (portions : List PlainPortion) → HasPortions source portions → (th : Theory) (sts : List Theorem) (steps : List Step)
@@ -126,10 +121,6 @@ as_kept system statements steps (Some kept) is = (ap kept_theory is.0, ap kept_s
 pub signature_there : (portions : List PlainPortion) (sig : Signature) (th : Theory) (sts : List Theorem) (steps : List Step)
     → (th.sig ≡ sig) × IsBuiltFileOf portions th sts steps → IsBuiltFileOf portions th sts steps
 signature_there portions sig th sts steps is = is.1
-
-pub signature_back : (portions : List PlainPortion) (sig : Signature) → SignaturesAreUnique → IsSignatureOf portions sig → (th : Theory) (sts : List Theorem) (steps : List Step)
-    → IsBuiltFileOf portions th sts steps → (th.sig ≡ sig) × IsBuiltFileOf portions th sts steps
-signature_back portions sig only told th sts steps is = (only portions th.sig sig is.0.signature told, is)
 
 -- a file one of whose statements has not one conclusion has no proofs
 pub not_one : (portions : List PlainPortion) (one : Theory) (ones : List Theorem)

@@ -1,6 +1,6 @@
 -- The search of the first token that is not built, one token after another.
 use native.Mathlib.Omega.{arith}
-use Rattle.std.proofs.Common.{◌≡◌, ◌↔◌, ◌<◌, ◌≤◌, ◌-◌, ℕ, suc, Bool, false, List, [], ◌∷◌, ◌++◌, length, map, take, drop, get_or, true≢false, Some, None, refl, sym, ap, subst, ◌∙◌, append_assoc, append-nil}
+use Rattle.std.proofs.Common.{◌≡◌, ◌↔◌, ◌<◌, ◌≤◌, ◌-◌, ℕ, suc, Bool, false, List, [], ◌∷◌, ◌++◌, length, map, take, drop, get_or, true≢false, None, refl, sym, ap, subst, ◌∙◌, append_assoc, append-nil}
 use Rattle.std.specs.Prelude.{IsTrue, codes}
 use Rattle.std.proofs.lemmas.List.{take_all}
 use Rattle.sy_base.specs.Tokens.{PlainToken}
@@ -8,24 +8,18 @@ use Rattle.proof_lexer.specs.View.{token_view}
 use Rattle.proof_lexer.specs.declared.token.Token.{Token}
 use Rattle.user_grammar.specs.Names.{IsAmong}
 use Rattle.proof_check.specs.declared.unbuilt.Before.{Before}
-use Rattle.proof_check.specs.NotBuilt.{unbuilt_words, reserved_words, IsWord, IsUnbuiltWord, IsReservedWord, EndsInSyntax, IsUnbuiltAt}
+use Rattle.outline_reader.specs.Sorts.{IsReserved}
+use Rattle.proof_check.specs.NotBuilt.{unbuilt_words, IsWord, IsUnbuiltWord, IsReservedWord, EndsInSyntax, IsUnbuiltAt}
 use Rattle.proof_check.specs.Places.{IsKeptOf, NoneAmongFirst, FindsUnbuilt}
-use Rattle.proof_check.proofs.PlaceLemmas.{none_in_syntax, none_before, behind_word, IsOneOfThese, to_these, from_these, none_among_none, none_among_more}
+use Rattle.proof_check.proofs.PlaceLemmas.{behind_word, none_among_more}
 
 -- a word is one of a list exactly where its text is
-pub reserved_by_text : (token : PlainToken) (is : Bool) → token.kind ≡ 0 → IsTrue is ↔ IsAmong reserved_words token.text → IsTrue is ↔ IsReservedWord token
+pub reserved_by_text : (token : PlainToken) (is : Bool) → token.kind ≡ 0 → IsTrue is ↔ IsReserved token.text → IsTrue is ↔ IsReservedWord token
+unfolding IsReserved
 reserved_by_text token is word told = ((λ yes. record { word = word; among = told.0 yes }), (λ reserved. told.1 reserved.among))
 
 pub unbuilt_by_text : (token : PlainToken) (is : Bool) → token.kind ≡ 0 → IsTrue is ↔ IsAmong unbuilt_words token.text → IsTrue is ↔ IsUnbuiltWord token
 unbuilt_by_text token is word told = ((λ yes. record { word = word; among = told.0 yes }), (λ unbuilt. told.1 unbuilt.among))
-
--- nothing is kept of no tokens
-pub kept_of_none : IsKeptOf [] (record { in_syntax = false; behind_by = false; behind_forall = false })
-kept_of_none = record {
-  in_syntax = ((λ e. cc), (λ is. absurd (none_in_syntax is)));
-  behind_by = ((λ e. cc), (λ is. absurd (none_before (codes "by") is)));
-  behind_forall = ((λ e. cc), (λ is. absurd (none_before (codes "forall") is)));
-}
 
 pub iff_both : {A B C : Type 0} → A ↔ B → B ↔ C → A ↔ C
 iff_both one two = ((λ a. two.0 (one.0 a)), (λ c. one.1 (two.1 c)))
@@ -40,16 +34,9 @@ kept_past tokens token syntax by all in_syntax is_by is_forall = record {
   behind_forall = iff_both is_forall (behind_word (codes "forall") tokens token);
 }
 
--- a form that is not built stands at a token exactly where one of these is so
-pub is_at : (tokens : List PlainToken) (token : PlainToken) (rest : List PlainToken) → IsOneOfThese tokens token rest ↔ IsUnbuiltAt tokens token rest
-is_at tokens token rest = (from_these tokens token rest, to_these tokens token rest)
-
 abbrev pub IsSearched : (tokens : List Token) (before : Before) (left : List Token) → Type 0
 IsSearched tokens before left =
     (front : List Token) × (tokens ≡ front ++ left) × IsKeptOf (map token_view front) before × NoneAmongFirst (map token_view tokens) (length (map token_view front))
-
-pub searched_none : (tokens : List Token) (before : Before) → IsKeptOf [] before → IsSearched tokens before tokens
-searched_none tokens before kept = ([], refl, kept, none_among_none (map token_view tokens))
 
 views_split : (front rest : List Token) (token : Token) → map token_view (front ++ token ∷ rest) ≡ map token_view front ++ token_view token ∷ map token_view rest
 views_split [] rest token = refl
@@ -71,17 +58,6 @@ searched_more tokens before after token rest is past not_here =
       subst (λ (ts : List PlainToken). NoneAmongFirst (map token_view tokens) (length ts)) (sym last)
           (none_among_more (map token_view tokens) (map token_view is.0) (map token_view rest) (token_view token) split is.3 (not_here (map token_view is.0) is.2)),
     )
-
--- the first one is found
-pub searched_found : (tokens : List Token) (before : Before) (token : Token) (rest : List Token) → IsSearched tokens before (token ∷ rest) →
-    ((ts : List PlainToken) → IsKeptOf ts before → IsUnbuiltAt ts (token_view token) (map token_view rest)) → FindsUnbuilt (map token_view tokens) (Some (token_view token))
-searched_found tokens before token rest is here = record {
-  front = map token_view is.0;
-  rest = map token_view rest;
-  split = ap (map token_view) is.1 ∙ views_split is.0 rest token;
-  unbuilt = here (map token_view is.0) is.2;
-  none_before = is.3;
-}
 
 -- none is found
 pub searched_all : (tokens : List Token) (before : Before) → IsSearched tokens before [] → FindsUnbuilt (map token_view tokens) None

@@ -1,7 +1,6 @@
 -- What stands in the portions of an outline, portion by portion.
-use Rattle.std.proofs.Common.{◌≡◌, ◌↔◌, ◌<◌, ◌+◌, ℕ, List, [], ◌∷◌, ◌++◌, length, drop, get_or, inl, inr, sym, ap, subst, ◌∙◌}
+use Rattle.std.proofs.Common.{◌≡◌, ◌↔◌, ◌<◌, ◌+◌, ℕ, List, length, drop, get_or, sym, subst}
 use Rattle.std.specs.Prelude.{flat_map}
-use Rattle.std.proofs.lemmas.List.{drop_more}
 use Rattle.binding_terms.specs.Numbered.{AnyByRecursion}
 use Rattle.outline_reader.specs.declared.parts.Portion.{Portion}
 use Rattle.outline_reader.specs.Plain.{PlainPortion, plain_portion}

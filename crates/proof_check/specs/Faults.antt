@@ -1,6 +1,6 @@
 -- The first fault of the tokens, the outline or the grammar of a file, and the lines that tell it. To be held against 'Faults' of
 -- docs/notation.md.
-use Rattle.std.specs.Prelude.{◌≡◌, ◌<◌, ◌≤◌, ℕ, ◌+◌, ◌==◌, List, [], ◌∷◌, ◌++◌, codes, decimal, count_by, take, map, slice_get, Option, MatchOption}
+use Rattle.std.specs.Prelude.{◌≡◌, ◌<◌, ◌≤◌, ℕ, ◌+◌, ◌==◌, List, [], ◌∷◌, ◌++◌, codes, decimal, count_by, take, map, slice_get, MatchOption}
 use Rattle.sy_base.specs.CodeName.{code_name}
 use Rattle.sy_base.specs.SourceLine.{source_line}
 use Rattle.sy_base.specs.Tokens.{PlainToken, AreTokens, TokenFault, HasFault, not_utf8, open_comment, open_quote}
@@ -116,10 +116,6 @@ IsRefusedWith source OutOfMemory = Unit {0}
 -- the source has no fault of its tokens, its outline or its grammar
 abbrev pub HasNoFaultYet : List ℕ → Type 0
 HasNoFaultYet source = (line : ℕ) (spelling detail : List ℕ) → IsFirstFault source line spelling detail → ⊥
-
--- the first fault of the source is found, and none where there is none
-abbrev pub FindsFault : List ℕ → Option Fault → Type 0
-FindsFault source found = MatchOption found (HasNoFaultYet source) (TellsFirst source)
 
 -- a detail stands after a colon and a blank; a text with an empty detail ends after the code
 abbrev pub after_code : List ℕ → List ℕ

@@ -1,9 +1,9 @@
 -- The places of a file at which a form stands that is not built. To be held against the table of such forms in 'Faults' of
 -- docs/notation.md. A kind is 0 a word, 1 a symbol, 2 punctuation; words in quotes and brackets in quotes are of another kind.
-use Rattle.std.specs.Prelude.{◌≡◌, ◌⊎◌, ◌<◌, ◌≤◌, ℕ, IsTrue, List, [], ◌∷◌, ◌++◌, codes, map, Option, Some, None, MatchOption}
+use Rattle.std.specs.Prelude.{◌≡◌, ◌⊎◌, ◌<◌, ◌≤◌, ℕ, IsTrue, List, [], ◌∷◌, ◌++◌, codes, Option, Some, None, MatchOption}
 use Rattle.binding_terms.specs.Numbered.{AnyByRecursion}
 use Rattle.sy_base.specs.Tokens.{PlainToken, AreTokens, is_numeral}
-use Rattle.outline_reader.specs.Sorts.{reserved}
+use Rattle.outline_reader.specs.Sorts.{reserved_words}
 use Rattle.outline_reader.specs.Plain.{PlainPortion, judgment_of, HasPortions}
 use Rattle.user_grammar.specs.File.{categories}
 use Rattle.user_grammar.specs.Names.{IsAmong}
@@ -24,10 +24,6 @@ IsWord word token = (token.kind ≡ 0) × (token.text ≡ word)
 pub record IsUnbuiltWord (token : PlainToken) : Type 0 where
   pub word : token.kind ≡ 0
   pub among : IsAmong unbuilt_words token.text
-
--- the reserved words
-abbrev pub reserved_words : List (List ℕ)
-reserved_words = map (λ entry. entry.0) reserved
 
 -- the token is a reserved word
 pub record IsReservedWord (token : PlainToken) : Type 0 where

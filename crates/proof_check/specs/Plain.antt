@@ -1,7 +1,7 @@
 -- The condition under which proofs are read so far. It is to go: forms that bind, and contexts, are read by the same relation.
 use Rattle.std.specs.Prelude.{◌≡◌, List, None}
 use Rattle.std.specs.List.{AllByRecursion}
-use Rattle.notation_parser.specs.Plain.{NothingBinds}
+use Rattle.notation_parser.specs.Plain.{HasNoVariablesNorParameters}
 use Rattle.rule_schemes.specs.Rules.{Theory}
 use Rattle.rule_schemes.specs.Statement.{Theorem}
 
@@ -9,4 +9,4 @@ use Rattle.rule_schemes.specs.Statement.{Theorem}
 -- parameters.
 pub record ArePlainStatements (th : Theory) (statements : List Theorem) : Type 0 where
   pub judgments : AllByRecursion (λ j. j.ctx ≡ None) th.judgments
-  pub nothing_binds : AllByRecursion (λ st. NothingBinds th.sig st.scope.metas) statements
+  pub nothing_binds : AllByRecursion (λ st. HasNoVariablesNorParameters th.sig st.scope.metas) statements

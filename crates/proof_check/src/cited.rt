@@ -6,8 +6,8 @@ ghost use Rattle.outline_reader.specs.Plain.{plain_argument};
 ghost use Rattle.proof_check.specs.Cited.{IsCitedAs};
 ghost use Rattle.proof_check.specs.Finding.{Finds};
 
-use crate::names::{is_unnamed, number, number_of};
-use binding_terms::{NoMemory, Text};
+use crate::names::{is_unnamed, number_of};
+use binding_terms::{NoMemory, Text, number};
 use core_proofs::StepId;
 use outline_reader::ArgText;
 use sqlite_items::Items;

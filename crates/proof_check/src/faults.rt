@@ -8,14 +8,14 @@ ghost use Rattle.outline_reader.specs.Plain.{outlined};
 ghost use Rattle.outline_reader.specs.Views.{portion_view};
 ghost use Rattle.user_grammar.specs.Grammar.{IsSignatureOf};
 ghost use Rattle.proof_check.specs.NotBuilt.{HasNotBuilt};
-ghost use Rattle.proof_check.specs.Faults.{part_words, limit_word, line_of_place, IsToldAt, IsToldOn, IsOutlineTold, HasNoFaultYet, TellsFirst, FindsFault, IsRefusedWith};
+ghost use Rattle.proof_check.specs.Faults.{part_words, limit_word, line_of_place, IsToldAt, IsToldOn, IsOutlineTold, HasNoFaultYet, TellsFirst, IsRefusedWith};
 
 use crate::places::first_not_built;
 use crate::unbuilt::first_unbuilt;
 use binding_terms::{NoMemory, Sig, Text};
 use itoa::Buffer;
-use outline_reader::{Limit, Outline, OutlineFault, Part, outline};
-use proof_lexer::{LexFault, Token, lex};
+use outline_reader::{Limit, Outline, OutlineFault, Part};
+use proof_lexer::{LexFault, Token};
 use std::alloc::Global;
 use sy_base::{Code, Fault, Refusal};
 use user_grammar::{faulty_files_have_no_signature, grammar};
@@ -81,9 +81,11 @@ fn line_of_place(source: &[u8], place: usize) -> u32
 fn fault_on(alloc: Global, line: u32, code: Code, words: &[u8]) -> Result<Fault, NoMemory>
     ensures { IfOk result (λ fault. IsToldOn line code words.now fault.line (code_name fault.code) fault.detail) }
 {
-    let mut detail = Text::new(alloc);
-    detail.push(words)?;
-    Ok(Fault { line, code, detail })
+    Ok(Fault {
+        line,
+        code,
+        detail: Text::of(alloc, words)?,
+    })
 }
 
 /// A fault of this code at a place of a source.
@@ -220,49 +222,5 @@ pub(crate) fn signature_or_fault(
     match first_not_built(source, tokens, outline) {
         Some(token) => Err(Refusal::Refused(not_built(alloc, &token)?)),
         None => grammar_or_fault(alloc, source, tokens, outline),
-    }
-}
-
-/// The first fault of tokens that have an outline, or none where there is none.
-fn outlined_fault(
-    alloc: Global,
-    source: &[u8],
-    tokens: &[Token<'_>],
-    outline: &Outline<'_>,
-) -> Result<Option<Fault>, NoMemory>
-    requires are_tokens { AreTokens source.now (map token_view tokens.now) }
-    requires outline { IsOutline tokens.now (map portion_view outline.now.parts.items) }
-    ensures { IfOk result (FindsFault source.now) }
-{
-    match signature_or_fault(alloc, source, tokens, outline) {
-        Ok(_) => Ok(None),
-        Err(Refusal::Refused(fault)) => Ok(Some(fault)),
-        Err(Refusal::NoMemory) => Err(NoMemory),
-    }
-}
-
-/// The first fault of a source with these tokens, or none where there is none.
-fn tokens_fault(
-    alloc: Global,
-    source: &[u8],
-    tokens: &Vec<Token<'_>>,
-) -> Result<Option<Fault>, NoMemory>
-    requires { AreTokens source.now (map token_view tokens.now.items) }
-    ensures { IfOk result (FindsFault source.now) }
-{
-    match outline(alloc, tokens) {
-        Ok(outline) => outlined_fault(alloc, source, tokens, &outline),
-        Err(fault) => Ok(Some(unoutlined_fault(alloc, source, tokens, fault)?)),
-    }
-}
-
-/// The first fault of the tokens, the outline or the grammar of a source, or none where there is none.
-pub(crate) fn first_fault(alloc: Global, source: &[u8]) -> Result<Option<Fault>, NoMemory>
-    requires { length source.now < 2 ^ 32 - 1 }
-    ensures { IfOk result (FindsFault source.now) }
-{
-    match lex(alloc, source) {
-        Ok(tokens) => tokens_fault(alloc, source, &tokens),
-        Err(fault) => Ok(Some(token_fault(alloc, source, fault)?)),
     }
 }

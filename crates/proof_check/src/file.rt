@@ -1,36 +1,28 @@
 // Whether a file is right.
-ghost use Rattle.std.specs.Prelude.{◌≡◌, ◌↔◌, ◌<◌, ◌-◌, ◌^◌, IsTrue, IfOk, MatchOption, List, map, length, vec_len};
+ghost use Rattle.std.specs.Prelude.{◌≡◌, ◌↔◌, ◌<◌, ◌^◌, IsTrue, IfOk, MatchOption, map, length, vec_len};
 ghost use Rattle.std.specs.List.{AllByRecursion};
-ghost use Rattle.sy_base.specs.Tokens.{AreTokens};
-ghost use Rattle.proof_lexer.specs.View.{token_view};
-ghost use Rattle.outline_reader.specs.Plain.{outlined, HasPortions};
+ghost use Rattle.outline_reader.specs.Plain.{outlined};
 ghost use Rattle.user_grammar.specs.Grammar.{IsSignatureOf};
 ghost use Rattle.user_grammar.specs.Bare.{IsBareSignature};
 ghost use Rattle.judgments.specs.Theory.{IsTheoryOf};
 ghost use Rattle.judgments.specs.Statements.{AreStatementsOf};
 ghost use Rattle.judgments.specs.Bare.{IsBareTheory, IsBareStatement};
-ghost use Rattle.rule_schemes.specs.Rules.{Theory};
-ghost use Rattle.rule_schemes.specs.Statement.{Theorem};
 ghost use Rattle.rule_schemes.specs.View.{theory, statement as plain_statement};
-ghost use Rattle.core_proofs.specs.Step.{Step};
 ghost use Rattle.core_proofs.specs.View.{step as plain_step};
-ghost use Rattle.core_proofs.specs.Kept.{kept_theory, kept_statements, kept_steps};
 ghost use Rattle.core_proofs.specs.Proof.{Proves};
 ghost use Rattle.core_proofs.specs.Provable.{IsProvable};
-ghost use Rattle.proof_check.specs.File.{IsFileOf, IsBuiltFileOf, IsRightSoFar, IsOnlyFile};
-ghost use Rattle.proof_check.specs.Steps.{AreStepsOf};
+ghost use Rattle.proof_check.specs.File.{IsFileOf, IsBuiltFileOf, IsOnlyFile};
 
 use crate::bare::is_bare;
 use crate::proofs::steps_of;
 use binding_terms::{NoMemory, Sig};
 use core_proofs::{Accepted, CoreStep, Proving};
 use judgments::{statements_of, system_of};
-use outline_reader::{Outline, OutlineFault, outline, portions_are_unique, tokens_are_outlined};
-use proof_lexer::{LexFault, Token, lex, tokens_are_unique};
+use outline_reader::Outline;
 use rule_schemes::{Statement, System};
 use std::alloc::Global;
 use sy_base::Refusal;
-use user_grammar::{faulty_files_have_no_signature, grammar, signatures_are_unique};
+use user_grammar::signatures_are_unique;
 
 /// Proofs of the statements by the steps, or none where a step is not right or a theorem has no proof.
 fn prove(
@@ -146,71 +138,4 @@ pub(crate) fn over_signature(
         return Ok(None);
     }
     theory_of(alloc, outline, sig)
-}
-
-/// What the portions of a file stand for, or none where they are no right file.
-fn parts_of(alloc: Global, outline: &Outline<'_>) -> Result<Option<Accepted>, NoMemory>
-    ensures { IfOk result (IsOnlyFile (IsBuiltFileOf (outlined outline.now))) }
-{
-    faulty_files_have_no_signature();
-    match grammar(alloc, outline) {
-        Ok(sig) => over_signature(alloc, outline, sig),
-        Err(Refusal::Refused(_)) => Ok(None),
-        Err(Refusal::NoMemory) => Err(NoMemory),
-    }
-}
-
-/// Whether there was no memory for the outline.
-fn is_want_of_outline(fault: &OutlineFault) -> bool
-    ensures { IsTrue result ↔ (fault.now ≡ OutlineFault.NoMemory) }
-{
-    matches!(fault, OutlineFault::NoMemory)
-}
-
-/// Whether there was no memory for the tokens.
-fn is_want_of_tokens(fault: &LexFault) -> bool
-    ensures { IsTrue result ↔ (fault.now ≡ LexFault.NoMemory) }
-{
-    matches!(fault, LexFault::NoMemory)
-}
-
-/// What a file of these tokens stands for, or none where it is not right.
-fn tokens_of(
-    alloc: Global,
-    source: &[u8],
-    tokens: &Vec<Token<'_>>,
-) -> Result<Option<Accepted>, NoMemory>
-    requires { AreTokens source.now (map token_view tokens.now.items) }
-    ensures { IfOk result (IsOnlyFile (IsRightSoFar source.now)) }
-{
-    let _ = source;
-    portions_are_unique();
-    tokens_are_outlined();
-    match outline(alloc, tokens) {
-        Ok(outline) => parts_of(alloc, &outline),
-        Err(fault) => {
-            if is_want_of_outline(&fault) {
-                return Err(NoMemory);
-            }
-            Ok(None)
-        }
-    }
-}
-
-/// The theory, the statements and the proofs for which a file stands, or none where the file is not right so far: it is not right, or its theory
-/// or statements are of a kind that is not built. Nothing is asked of single tokens: `judge_file` asks that none of them is not built.
-pub fn accept_file(alloc: Global, source: &[u8]) -> Result<Option<Accepted>, NoMemory>
-    requires size { length source.now < 2 ^ 32 - 1 }
-    ensures { IfOk result (IsOnlyFile (IsRightSoFar source.now)) }
-{
-    tokens_are_unique();
-    match lex(alloc, source) {
-        Ok(tokens) => tokens_of(alloc, source, &tokens),
-        Err(fault) => {
-            if is_want_of_tokens(&fault) {
-                return Err(NoMemory);
-            }
-            Ok(None)
-        }
-    }
 }

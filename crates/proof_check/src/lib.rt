@@ -19,8 +19,6 @@ mod telling;
 mod unbuilt;
 mod variables;
 
-pub use file::accept_file;
 pub use judge::{Judged, judge_file};
 pub use laws::grammars_are_files;
 pub use proofs::steps_of;
-pub use telling::fault_text;

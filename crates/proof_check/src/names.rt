@@ -1,5 +1,5 @@
 // The names of rules and derivations, and their numbers.
-ghost use Rattle.std.specs.Prelude.{◌≡◌, ◌≢◌, ◌↔◌, ◌⊎◌, IsTrue, IfOk, map};
+ghost use Rattle.std.specs.Prelude.{◌≡◌, ◌≢◌, ◌↔◌, IsTrue, IfOk, map};
 ghost use Rattle.std.specs.List.{AllByRecursion};
 ghost use Rattle.rule_schemes.specs.View.{theory};
 ghost use Rattle.outline_reader.specs.Views.{input_view};
@@ -10,32 +10,16 @@ ghost use Rattle.proof_check.specs.Finding.{Finds};
 use crate::spelling::is_spelling_in;
 use binding_terms::{NoMemory, Sig, Text};
 use outline_reader::InputText;
-use rule_schemes::{RuleScheme, System};
+use rule_schemes::{RuleScheme, System, same_text};
 use sqlite_items::Items;
 use std::alloc::Global;
-
-/// The number as it is kept; one that is too great is want of memory.
-pub fn number(at: usize) -> Result<u32, NoMemory>
-    ensures { IfOk result (λ n. n ≡ at) }
-{
-    match u32::try_from(at) {
-        Ok(n) => Ok(n),
-        Err(_) => Err(NoMemory),
-    }
-}
-
-pub fn is_same(one: &[u8], other: &[u8]) -> bool
-    ensures { IsTrue result ↔ (one.now ≡ other.now) }
-{
-    one == other
-}
 
 /// The number of the first of the names that is this one.
 pub fn number_of(name: &[u8], names: &[Text]) -> Option<usize>
     ensures { Finds (IsNumberOf name.now names.now) result }
 {
     for i in 0..names.len() {
-        if is_same(names[i].bytes(), name) {
+        if same_text(names[i].bytes(), name) {
             return Some(i);
         }
     }
@@ -46,7 +30,7 @@ fn first_named(name: &[u8], rules: &[RuleScheme]) -> Option<usize>
     ensures { Finds (IsNumberOf name.now (map (λ r. r.name) rules.now)) result }
 {
     for i in 0..rules.len() {
-        if is_same(rules[i].name.bytes(), name) {
+        if same_text(rules[i].name.bytes(), name) {
             return Some(i);
         }
     }
@@ -70,7 +54,7 @@ fn is_new(name: &[u8], names: &[Text]) -> bool
     ensures { IsTrue result ↔ AllByRecursion (λ other. other ≢ name.now) names.now }
 {
     for other in names {
-        if is_same(other.bytes(), name) {
+        if same_text(other.bytes(), name) {
             return false;
         }
     }
@@ -87,14 +71,6 @@ pub fn may_be_given(sig: &Sig, named: &[Text], name: &[u8]) -> bool
     is_unnamed(name) || is_new(name, named)
 }
 
-pub fn text_of(alloc: Global, bytes: &[u8]) -> Result<Text, NoMemory>
-    ensures { IfOk result (λ text. text ≡ bytes.now) }
-{
-    let mut text = Text::new(alloc);
-    text.push(bytes)?;
-    Ok(text)
-}
-
 /// The names of the given derivations.
 pub fn given(alloc: Global, inputs: &[InputText<'_>]) -> Result<Items<Text>, NoMemory>
     ensures { IfOk result (λ named. named ≡ given_names (map plain_input (map input_view inputs.now))) }
@@ -102,7 +78,7 @@ pub fn given(alloc: Global, inputs: &[InputText<'_>]) -> Result<Items<Text>, NoM
     let mut named = Items::new(alloc);
     for input in inputs {
         match input {
-            InputText::Given(labelled) => named.push(text_of(
+            InputText::Given(labelled) => named.push(Text::of(
                 alloc,
                 labelled.name.text.as_bytes(),
             )?)?,

@@ -9,7 +9,6 @@ ghost use Rattle.notation_parser.specs.Plain.{IsPlain};
 ghost use Rattle.notation_parser.specs.View.{reading_scope};
 ghost use Rattle.outline_reader.specs.Views.{input_view, portion_view};
 ghost use Rattle.outline_reader.specs.Plain.{plain_input, plain_portion, outlined};
-ghost use Rattle.judgments.specs.Written.{settled};
 ghost use Rattle.core_proofs.specs.Step.{Step};
 ghost use Rattle.core_proofs.specs.View.{step};
 ghost use Rattle.proof_check.specs.Finding.{Finds, Adds};
@@ -18,10 +17,10 @@ ghost use Rattle.proof_check.specs.View.{plain_portions};
 ghost use Rattle.proof_check.specs.Cited.{given_names};
 ghost use Rattle.proof_check.specs.Steps.{EndsProof, IsProofEnd, HoldsNoProof, BeginsProof, AreStepsFrom, AreProofSteps, AreStepsOf};
 
-use crate::names::{given, number};
-use crate::scope::{proof_scope, settled};
+use crate::names::given;
+use crate::scope::{scope_of_proof, settled};
 use crate::step::{Made, step_of};
-use binding_terms::{NoMemory, Text};
+use binding_terms::{NoMemory, Text, number};
 use core_proofs::CoreStep;
 use outline_reader::{InputText, Outline, Part, Portion};
 use rule_schemes::{ReadScope, Statement, System, TheoremId};
@@ -65,7 +64,6 @@ fn add_proof(
     steps: &mut Vec<CoreStep>,
 ) -> Result<Option<usize>, NoMemory>
     requires plain { IsPlain sys.now.sig sys.now.judgments (reading_scope scope.now) want_judgment }
-    requires settled { reading_scope scope.now ≡ settled (plain_names scope.now.scope) }
     requires from { from ≤ length portions.now }
     ensures { let th = theory sys.now in let st = plain statement.now in let names = plain_names scope.now.scope in
         let here = plain_portions (drop from portions.now) in
@@ -126,7 +124,7 @@ fn add_theorem(
         Some(statement) => statement,
         None => return Ok(None),
     };
-    let scope = match proof_scope(alloc, statement)? {
+    let scope = match scope_of_proof(alloc, statement)? {
         Some(scope) => settled(alloc, scope),
         None => return Ok(None),
     };

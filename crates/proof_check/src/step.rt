@@ -9,7 +9,6 @@ ghost use Rattle.notation_parser.specs.View.{reading_scope};
 ghost use Rattle.proof_lexer.specs.View.{token_view};
 ghost use Rattle.outline_reader.specs.Views.{arg_view, just_view, portion_view};
 ghost use Rattle.outline_reader.specs.Plain.{plain_argument, plain_form, plain_justification, plain_portion, by_rule_of};
-ghost use Rattle.judgments.specs.Written.{settled};
 ghost use Rattle.core_proofs.specs.Step.{Step};
 ghost use Rattle.core_proofs.specs.View.{step};
 ghost use Rattle.proof_check.specs.Cited.{UNNAMED, MayBeGiven};
@@ -20,8 +19,8 @@ ghost use Rattle.proof_check.specs.View.{made_step};
 
 use crate::cited::all_cited;
 use crate::forms::{goal, read_form};
-use crate::names::{may_be_given, number, rule_named, text_of};
-use binding_terms::{NoMemory, Text};
+use crate::names::{may_be_given, rule_named};
+use binding_terms::{NoMemory, Text, number};
 use core_proofs::CoreStep;
 use outline_reader::{ArgText, Form, Just, Name, Portion};
 use rule_schemes::{JScheme, ReadScope, RuleId, Statement, System};
@@ -42,7 +41,7 @@ fn said_by_goal(alloc: Global, statement: &Statement) -> Result<Option<(Text, JS
         (option_map (λ said. (said.0, judgment_scheme said.1)) found)) }
 {
     match goal(alloc, statement)? {
-        Some(form) => Ok(Some((text_of(alloc, b"_")?, form))),
+        Some(form) => Ok(Some((Text::of(alloc, b"_")?, form))),
         None => Ok(None),
     }
 }
@@ -57,7 +56,6 @@ fn said_by_form(
     form: Form<'_>,
 ) -> Result<Option<(Text, JScheme)>, NoMemory>
     requires plain { IsPlain sys.now.sig sys.now.judgments (reading_scope scope.now) want_judgment }
-    requires settled { reading_scope scope.now ≡ settled (plain_names scope.now.scope) }
     ensures { IfOk result (λ found. Finds
         (λ (said : List ℕ × JudgmentScheme). (said.0 ≡ name.now.text.now) × MayBeGiven sys.now.sig named.now name.now.text.now
         × IsFormOf (theory sys.now) (plain_names scope.now.scope) (map token_view form.now) said.1)
@@ -67,7 +65,7 @@ fn said_by_form(
         return Ok(None);
     }
     match read_form(alloc, sys, scope, form)? {
-        Some(form) => Ok(Some((text_of(alloc, name.text.as_bytes())?, form))),
+        Some(form) => Ok(Some((Text::of(alloc, name.text.as_bytes())?, form))),
         None => Ok(None),
     }
 }
@@ -83,7 +81,6 @@ fn said(
     forms: &[Form<'_>],
 ) -> Result<Option<(Text, JScheme)>, NoMemory>
     requires plain { IsPlain sys.now.sig sys.now.judgments (reading_scope scope.now) want_judgment }
-    requires settled { reading_scope scope.now ≡ settled (plain_names scope.now.scope) }
     ensures { IfOk result (λ found. Finds
         (λ (said : List ℕ × JudgmentScheme). Says (theory sys.now) (plain statement.now) (plain_names scope.now.scope) named.now
         (map token_view (map (λ name. name.now) names.now)) (map plain_form (map (λ form. form.now) forms.now)) said.0 said.1)
@@ -157,7 +154,6 @@ pub fn step_of(
     portion: &Portion<'_>,
 ) -> Result<Option<Made>, NoMemory>
     requires plain { IsPlain sys.now.sig sys.now.judgments (reading_scope scope.now) want_judgment }
-    requires settled { reading_scope scope.now ≡ settled (plain_names scope.now.scope) }
     ensures { IfOk result (λ found. Finds
         (StandsFor (theory sys.now) (plain statement.now) (plain_names scope.now.scope) named.now (plain_portion (portion_view portion.now)))
         (option_map made_step found)) }

@@ -1,9 +1,8 @@
 // The lines that tell a fault.
-ghost use Rattle.std.specs.Prelude.{◌≡◌, ◌-◌, ◌<◌, ◌^◌, ◌++◌, ℕ, List, IfOk, OnOk, MatchOption, length};
+ghost use Rattle.std.specs.Prelude.{◌≡◌, ◌++◌, IfOk, OnOk};
 ghost use Rattle.sy_base.specs.CodeName.{code_name};
-ghost use Rattle.proof_check.specs.Faults.{after_code, ended_line, fault_line, fault_lines, IsFaultText};
+ghost use Rattle.proof_check.specs.Faults.{after_code, ended_line, fault_line, fault_lines};
 
-use crate::faults::first_fault;
 use binding_terms::NoMemory;
 use itoa::Buffer;
 use proof_lexer::source_line;
@@ -53,20 +52,4 @@ pub(crate) fn fault_lines(alloc: Global, source: &[u8], fault: &Fault) -> Result
     push_line(&mut text, &line)?;
     push_line(&mut text, source_line(source, fault.line))?;
     Ok(text)
-}
-
-/// The two lines that tell the first fault of the tokens, the outline or the grammar of a file, or none where it has none: 'Faults' of
-/// docs/notation.md.
-///
-/// They are `line n: Code: detail` and line n of the file without its own ending, each with a line feed.
-pub fn fault_text(alloc: Global, source: &[u8]) -> Result<Option<Vec<u8>>, NoMemory>
-    requires { length source.now < 2 ^ 32 - 1 }
-    ensures { IfOk result (λ found. MatchOption found ((text : List ℕ) → IsFaultText source.now text → ⊥)
-        (λ text. IsFaultText source.now text.items
-        × ((other : List ℕ) → IsFaultText source.now other → other ≡ text.items))) }
-{
-    match first_fault(alloc, source)? {
-        Some(fault) => Ok(Some(fault_lines(alloc, source, &fault)?)),
-        None => Ok(None),
-    }
 }

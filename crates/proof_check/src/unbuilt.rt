@@ -7,8 +7,9 @@ ghost use Rattle.user_grammar.specs.Production.{IsMark};
 ghost use Rattle.proof_check.specs.NotBuilt.{IsWord, IsUnbuiltWord, IsReservedWord, IsName, IsCallee, BeginsWithColon, EndsInSyntax, IsUnbuiltAt};
 ghost use Rattle.proof_check.specs.Places.{IsKeptOf, FindsUnbuilt};
 
-use crate::names::is_same;
+use outline_reader::is_reserved;
 use proof_lexer::{Kind, Token, is_numeral};
+use rule_schemes::same_text;
 
 /// The words of forms that are not built.
 const UNBUILT: [&[u8]; 11] = [
@@ -25,43 +26,11 @@ const UNBUILT: [&[u8]; 11] = [
     b"substitution",
 ];
 
-/// The reserved words.
-const RESERVED: [&[u8]; 28] = [
-    b"terminals",
-    b"syntax",
-    b"judgment",
-    b"assumes",
-    b"theorem",
-    b"lemma",
-    b"and",
-    b"forall",
-    b"exists",
-    b"by",
-    b"rule",
-    b"on",
-    b"induction",
-    b"hypothesis",
-    b"inversion",
-    b"contradiction",
-    b"case",
-    b"analysis",
-    b"is",
-    b"end",
-    b"proof",
-    b"use",
-    b"weakening",
-    b"exchange",
-    b"substitution",
-    b"unproved",
-    b"solve",
-    b"import",
-];
-
 fn is_among(table: &[&[u8]], text: &[u8]) -> bool
     ensures { IsTrue result ↔ IsAmong (map (λ word. word.now) table.now) text.now }
 {
     for word in table {
-        if is_same(word, text) {
+        if same_text(word, text) {
             return true;
         }
     }
@@ -77,7 +46,7 @@ fn is_plain_word(token: &Token<'_>) -> bool
 fn is_word(token: &Token<'_>, word: &[u8]) -> bool
     ensures { IsTrue result ↔ IsWord word.now (token_view token.now) }
 {
-    token.kind == Kind::Word && is_same(token.text.as_bytes(), word)
+    token.kind == Kind::Word && same_text(token.text.as_bytes(), word)
 }
 
 fn is_unbuilt_word(token: &Token<'_>) -> bool
@@ -86,16 +55,16 @@ fn is_unbuilt_word(token: &Token<'_>) -> bool
     is_plain_word(token) && is_among(&UNBUILT, token.text.as_bytes())
 }
 
-fn is_reserved(token: &Token<'_>) -> bool
+fn is_reserved_word(token: &Token<'_>) -> bool
     ensures { IsTrue result ↔ IsReservedWord (token_view token.now) }
 {
-    is_plain_word(token) && is_among(&RESERVED, token.text.as_bytes())
+    is_plain_word(token) && is_reserved(token.text.as_bytes())
 }
 
 fn is_name(token: &Token<'_>) -> bool
     ensures { IsTrue result ↔ IsName (token_view token.now) }
 {
-    token.kind == Kind::Word && !is_reserved(token) && !is_numeral(token.text)
+    token.kind == Kind::Word && !is_reserved_word(token) && !is_numeral(token.text)
 }
 
 fn is_opening_bracket(token: &Token<'_>) -> bool
@@ -151,7 +120,7 @@ fn stays_in_syntax(in_syntax: bool, token: &Token<'_>) -> bool
     ensures { (tokens : List PlainToken) → (IsTrue in_syntax ↔ EndsInSyntax tokens)
         → IsTrue result ↔ EndsInSyntax (tokens ++ token_view token.now ∷ []) }
 {
-    if is_reserved(token) {
+    if is_reserved_word(token) {
         return is_word(token, b"syntax");
     }
     in_syntax

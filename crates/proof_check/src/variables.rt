@@ -1,28 +1,26 @@
 // Whether a file declares a variable, and its first judgment part.
 ghost use Rattle.std.specs.Prelude.{◌≡◌, ◌↔◌, IsTrue, MatchOption, ◌∷◌, [], map, option_map};
 ghost use Rattle.binding_terms.specs.Numbered.{AnyByRecursion};
-ghost use Rattle.rule_schemes.specs.Reading.{IsSpelling};
 ghost use Rattle.sy_base.specs.Tokens.{PlainToken};
 ghost use Rattle.proof_lexer.specs.View.{token_view};
 ghost use Rattle.outline_reader.specs.Views.{portion_view};
 ghost use Rattle.outline_reader.specs.Plain.{plain_form, plain_portion};
-ghost use Rattle.user_grammar.specs.File.{listed, listed_in, categories, category_in};
+ghost use Rattle.user_grammar.specs.File.{listed, listed_in, category_in};
 ghost use Rattle.user_grammar.specs.Names.{IsAmong, IsNoSpelling};
 ghost use Rattle.user_grammar.specs.Fault.{DeclaresVariable, category_texts};
 ghost use Rattle.proof_check.specs.NotBuilt.{judgment_word, IsFirstJudgment, HasVariable};
 ghost use Rattle.proof_check.specs.Places.{FindsJudgment};
 ghost use Rattle.proof_check.specs.View.{plain_portions};
 
-use crate::names::is_same;
-use crate::spelling::is_spelling;
 use outline_reader::{Form, Portion};
 use proof_lexer::{Kind, Token, is_numeral};
+use rule_schemes::{is_spelling, same_text};
 
 fn is_listed_in(items: &[Token<'_>], word: &[u8]) -> bool
     ensures { IsTrue result ↔ IsAmong (map (λ token. token.text) (plain_form items.now)) word.now }
 {
     for token in items {
-        if is_same(token.text.as_bytes(), word) {
+        if same_text(token.text.as_bytes(), word) {
             return true;
         }
     }

@@ -17,13 +17,13 @@ use Rattle.rule_schemes.specs.Refused.{IsFirstMisplaced, with_rule, AssumeAlike}
 use Rattle.binding_terms.proofs.Lists.{all_found, all_push, all_weaker}
 
 -- no category is one of contexts
-no_context : (cats : List Cat) (c : ℕ) → AllByRecursion (λ cat. cat.context ≡ false) cats
+pub no_context : (cats : List Cat) (c : ℕ) → AllByRecursion (λ cat. cat.context ≡ false) cats
     → MatchOption (slice_get cats c) ⊥ (λ cat. cat.context ≡ true) → ⊥
 no_context [] c all h = h
 no_context (cat ∷ cats) zero all h = absurd (true≢false (sym h ∙ all.0))
 no_context (cat ∷ cats) (suc c) all h = no_context cats c all.1 h
 
-no_context_assumed : (sig : Signature) (Rest : CatId → Type 0) (ctx : Option CatId) → IsPlainSignature sig
+pub no_context_assumed : (sig : Signature) (Rest : CatId → Type 0) (ctx : Option CatId) → IsPlainSignature sig
     → MatchOption ctx (Unit {0}) (λ c. IsContext sig c.0 × Rest c) → ctx ≡ None
 no_context_assumed sig Rest None plain h = refl
 no_context_assumed sig Rest (Some c) plain h = absurd (no_context sig.cats c.0 plain.no_context h.0)
@@ -33,7 +33,7 @@ pub record IsClosedForm (context : SchemeContext) : Type 0 where
   pub root : context.root ≡ Closed
   pub entries : context.entries ≡ []
 
-is_closed : (root : Root) → IsRootOf None root → root ≡ Closed
+pub is_closed : (root : Root) → IsRootOf None root → root ≡ Closed
 is_closed Closed h = refl
 is_closed (Empty c) h = absurd h
 is_closed (Whole c) h = absurd h

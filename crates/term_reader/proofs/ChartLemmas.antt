@@ -224,10 +224,3 @@ module _ (f : Charted) where
           → ReadsItems f.sig f.metas vars own words items (slice_range f.tokens mid to) ys → CannotRead f c.0 from mid ⊎ CannotTake f items mid to → ⊥
       which mid s ys t rest (inl fails) = fails (slot_variables own binds ++ vars) s (under_allowed f.sig f.base own vars binds own_ok allowed) t
       which mid s ys t rest (inr fails) = fails vars own words ys allowed own_ok rest
-
--- a word that is a name and an ending is a spelling of the name where the ending is one
-pub spelled_by_ending : (name w ending : List ℕ) (r : Bool) → w ≡ name ++ ending → (IsTrue r ↔ AllByRecursion IsEnding ending) → IsTrue r ↔ IsSpelling name w
-spelled_by_ending name w ending r is ends = (
-  λ t. (ending, is, ends.0 t),
-  λ spells. ends.1 (subst (AllByRecursion IsEnding) (append_cancel_left name spells.0 ending (sym spells.1 ∙ is)) spells.2),
-)

@@ -6,7 +6,7 @@ ghost use Rattle.std.specs.List.{AllByRecursion};
 ghost use Rattle.binding_terms.specs.Numbered.{AnyByRecursion};
 ghost use Rattle.binding_terms.specs.Signature.{Fits};
 ghost use Rattle.binding_terms.specs.declared.grammar.Prod.{Prod};
-ghost use Rattle.rule_schemes.specs.Reading.{IsEnding, IsSpelling, IsVariableWord, punctuation, word};
+ghost use Rattle.rule_schemes.specs.Reading.{IsVariableWord, punctuation, word};
 ghost use Rattle.term_reader.specs.Chart.{IsAmong, MayBeVariable, IsClosed, place, SaysNo, IsChart};
 ghost use Rattle.term_reader.specs.Charting.{charted, CannotGroup, CannotName, CannotVary, CannotStand, CannotProduce, CannotGoOn, IsKnown, AreTailsKnown, IsReady};
 ghost use Rattle.term_reader.specs.View.{token};
@@ -14,6 +14,7 @@ ghost use Rattle.term_reader.specs.View.{token};
 use crate::words::{is_punctuation, is_terminal, is_word};
 use binding_terms::{CatId, Item, NoMemory, Sig, Text};
 use proof_lexer::{Kind, Token};
+use rule_schemes::is_spelling;
 use scheme_terms::MetaDecl;
 use sqlite_items::{Items, at};
 use std::alloc::Global;
@@ -75,41 +76,6 @@ impl Boxes {
         if place < self.marks.len() {
             self.marks.set(place, true);
         }
-    }
-}
-
-fn is_ending(byte: u8) -> bool
-    ensures { IsTrue result ↔ IsEnding byte }
-{
-    byte.is_ascii_digit() || byte == b'\''
-}
-
-fn are_endings(bytes: &[u8]) -> bool
-    ensures { IsTrue result ↔ AllByRecursion IsEnding bytes.now }
-{
-    for &byte in bytes {
-        if !is_ending(byte) {
-            return false;
-        }
-    }
-    true
-}
-
-/// What follows a name in a word that begins with it.
-fn behind_name<'a>(name: &[u8], word: &'a [u8]) -> Option<&'a [u8]>
-    ensures { MatchOption result ((ending : List ℕ) → word.now ≢ name.now ++ ending)
-        (λ ending. word.now ≡ name.now ++ ending.now) }
-{
-    word.strip_prefix(name)
-}
-
-/// Whether a word is a spelling of a name: the name followed by digits and primes.
-fn is_spelling(name: &[u8], word: &[u8]) -> bool
-    ensures { IsTrue result ↔ IsSpelling name.now word.now }
-{
-    match behind_name(name, word) {
-        Some(ending) => are_endings(ending),
-        None => false,
     }
 }
 

@@ -14,13 +14,12 @@ mod variable_place;
 mod variables;
 mod words;
 
-pub use brackets::bracket_splits;
 pub use chart::Chart;
-pub use firsts::{Firsts, extended, is_full, joined};
+pub use firsts::Firsts;
 pub use places::{Place, are_before, are_same, is_before};
 pub use placing::{place_of, places_of};
-pub use reading::{Head, bodies, in_splits, number, parts, terms};
+pub use reading::{Head, bodies, in_splits, parts, terms};
 pub use sheet::Sheet;
 pub use splitting::{Piece, Split, splits};
-pub use variables::{Meaning, Var, innermost, scope_variables, slot_scope};
-pub use words::{is_any_word, is_terminal, is_word};
+pub use variables::{Meaning, Var, scope_variables};
+pub use words::{is_any_word, is_word};

@@ -16,7 +16,7 @@ use crate::sheet::Sheet;
 use crate::splitting::{Piece, Split, splits};
 use crate::variables::{Var, innermost, slot_scope};
 use crate::words::{is_any_word, is_word};
-use binding_terms::{CatId, Item, NoMemory, ProdId};
+use binding_terms::{CatId, Item, NoMemory, ProdId, number};
 use scheme_terms::{MetaDecl, MetaId, SArg, Scheme, copy_scheme};
 use sqlite_items::Items;
 use std::alloc::Global;
@@ -26,15 +26,6 @@ use std::alloc::Global;
 pub enum Head {
     Product(ProdId),
     Meta(MetaId),
-}
-
-pub fn number(at: usize) -> Result<u32, NoMemory>
-    ensures { IfOk result (λ n. n ≡ at) }
-{
-    match u32::try_from(at) {
-        Ok(n) => Ok(n),
-        Err(_) => Err(NoMemory),
-    }
 }
 
 /// The schemes of the parts alone.

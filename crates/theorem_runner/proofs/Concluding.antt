@@ -26,7 +26,7 @@ use Rattle.core_proofs.proofs.RuleFitting.{places, bare}
 use Rattle.core_proofs.proofs.RuleSteps.{metas_fit}
 use Rattle.core_proofs.proofs.PlainForms.{plain_form}
 use Rattle.core_proofs.proofs.Keeping.{plain_scope}
-use Rattle.scheme_match.proofs.Solving.{instance_meta}
+use Rattle.scheme_terms.proofs.Lists.{instance_meta}
 use Rattle.theorem_runner.specs.Instances.{Gives}
 use Rattle.theorem_runner.proofs.Restricting.{of_inputs_below}
 use Rattle.binding_terms.proofs.Lists.{append_within, match_some}
@@ -78,7 +78,7 @@ module _ (th : Theory) (system : IsPlainSystem th) (st : Theorem) (provable : Is
       let got = zip_at (IsMetaValue th.sig inst) scope.metas inst.metas gives.0.metas m here.0 here.1 in
       let set = match_some got.0 (λ t. IsTerm th.sig (reverse (map (λ c. c.0) here.0.params) ++ scope_of th.sig inst.root) here.0.cat.0 t) got.2 in
       let old : given_value inst m ≡ Some set.0 = ap (λ o. unwrap_or o None) got.1 ∙ set.1 in
-      value ∙ ap Some (bare_name ∙ instance_meta inst m no_values refl ∙ ap (λ o. unwrap_or o (var 0)) old) ∙ sym old
+      value ∙ ap Some (bare_name ∙ instance_meta inst m ∙ ap (λ o. unwrap_or o (var 0)) old) ∙ sym old
 
   conclusion_same : (j : JudgmentScheme) → IsPlainForm th st.scope j → judgment_instance inst (applied_judgment by j) ≡ judgment_instance more j
   conclusion_same j form =

@@ -7,9 +7,8 @@ use Rattle.std.proofs.lemmas.Option.{slice_get_within, slice_get-map, slice_get_
 use Rattle.scheme_terms.specs.Forms.{Names, Instance, ContextValue}
 use Rattle.pattern_unify.proofs.Places.{within as place_within}
 use Rattle.rule_schemes.specs.Rules.{JudgmentScheme, Theory, judgment_instance}
-use Rattle.rule_schemes.specs.Derivation.{Derivation, node, subtree}
+use Rattle.rule_schemes.specs.Derivation.{Derivation, node}
 use Rattle.rule_schemes.specs.Statement.{Theorem, InputTree, StatementInput, given, syntax_input, derived, term, IsGiven, DeriveConclusions}
-use Rattle.derivation_check.specs.Parts.{subtrees_of}
 use Rattle.core_proofs.specs.declared.step.CoreStep.{CoreStep}
 use Rattle.core_proofs.specs.declared.step.StepId.{StepId}
 use Rattle.core_proofs.specs.View.{step}
@@ -25,10 +24,6 @@ use Rattle.theorem_runner.proofs.Bodies.{proof_of, one_body}
 use Rattle.theorem_runner.proofs.Values.{last_made}
 use Rattle.theorem_runner.proofs.ValueLaws.{given_count, body_leads, value_is_one, value_derives}
 use Rattle.binding_terms.proofs.Lists.{last_same}
-
-pub same_subtrees : (ds : List Derivation) → subtrees_of ds ≡ subtrees ds
-same_subtrees [] = refl
-same_subtrees (d ∷ ds) = ap (subtree d) (same_subtrees ds)
 
 -- what is given is derived
 pub given_is_derived : (th : Theory) (inst : Instance) (inputs : List StatementInput) (xs : List InputTree) → AllZip (IsGiven th inst) inputs xs → AllByRecursion (IsDerived th) xs

@@ -6,29 +6,29 @@ use Rattle.std.proofs.lemmas.List.{append-nil, drop_more, drop_all}
 use Rattle.std.proofs.lemmas.Option.{same_Some, get_or_from_slice_get, slice_get_within}
 use Rattle.std.proofs.lemmas.Slice.Zip.{AllZip-long}
 use Rattle.binding_terms.specs.Numbered.{AnyByRecursion}
-use Rattle.binding_terms.specs.Signature.{slots}
 use Rattle.scheme_terms.specs.Forms.{Names, Instance, ContextValue, KnownVariable}
-use Rattle.scheme_terms.specs.Context.{AreArguments, IsValue, scope_of}
+use Rattle.scheme_terms.specs.Context.{IsValue}
+use Rattle.scheme_terms.specs.SchemeScope.{IsRoot}
 use Rattle.scheme_terms.specs.Instance.{IsMetaValue, IsKnownPlace}
 use Rattle.scheme_terms.specs.declared.scheme.MetaDecl.{MetaDecl}
 use Rattle.scheme_terms.specs.declared.scheme.Root.TheVariants.{Closed}
 use Rattle.scheme_terms.proofs.Options.{zip_at}
 use Rattle.pattern_unify.proofs.Places.{numbered, numbered_at}
 use Rattle.rule_schemes.specs.Plain.{IsPlainSystem}
-use Rattle.rule_schemes.specs.Rules.{JudgmentScheme, Theory, root_of, argument_slots}
+use Rattle.rule_schemes.specs.Rules.{JudgmentScheme, Theory}
 use Rattle.rule_schemes.specs.Derivation.{Derivation, judgment, Derives}
 use Rattle.rule_schemes.specs.Statement.{StatementInput, given, syntax_input, Theorem, InputTree, derived, term, IsGiven, given_value, IsOfInputs, StrictInInput, StrictInStatement}
 use Rattle.rule_schemes.proofs.DerivationLemmas.{derives_a_judgment}
-use Rattle.scheme_match.specs.Matching.{Matched, judgments, Matching, ArgumentsFit, MakesEqual, IsMatch, IsOnlyMatch, StrictInPair, AreStrict}
+use Rattle.scheme_match.specs.Matching.{Matched, judgments, Matching, JudgmentsFit, MakesEqual, IsMatch, IsOnlyMatch, StrictInPair, AreStrict}
+use Rattle.scheme_match.proofs.Fitting.{forms_fit}
 use Rattle.core_proofs.specs.Plain.{IsPlainForm}
 use Rattle.core_proofs.specs.Proof.{IsProofScope, given_judgments}
 use Rattle.core_proofs.specs.Provable.{IsProvable, IsOfDerivation}
-use Rattle.core_proofs.proofs.RuleFitting.{places, bare}
 use Rattle.theorem_runner.specs.Instances.{no_context_value, IsDerived, Gives, IsOnlyInstance}
 use Rattle.theorem_runner.proofs.Pairs.{put_pair, input_pairs}
 use Rattle.theorem_runner.proofs.OneInstance.{no_places}
 use Rattle.theorem_runner.proofs.Restricting.{of_inputs_below}
-use Rattle.binding_terms.proofs.Lists.{append_within, match_some}
+use Rattle.binding_terms.proofs.Lists.{append_within}
 
 -- what is known of the pairs so far, one input on
 module _ {A B : Type 0} (f : A → StatementInput) (g : B → InputTree) (ins : List A) (outs : List B) (i : ℕ) (a : A) (b : B) (here : slice_get ins i ≡ Some a) (there : slice_get outs i ≡ Some b) where
@@ -78,22 +78,10 @@ given_at P (syntax_input m ∷ inputs) (suc i) j all e = given_at P inputs i j a
 
 module _ (th : Theory) (system : IsPlainSystem th) (st : Theorem) (provable : IsProvable th st) (scope : Names) (is : IsProofScope st scope) where
   -- a form and the judgment of a derivation fit together
-  pub arguments_fit : (j : JudgmentScheme) (d : Derivation) → IsPlainForm th scope j → Derives th d → j.judgment ≡ (judgment d).judgment →
-      ArgumentsFit th.sig scope.metas j (judgment d)
-  arguments_fit j d form derives same =
-      let got = match_some (slice_get th.judgments (judgment d).judgment)
-      (λ f. IsValue th.sig (root_of f.ctx) (judgment d).context × AreArguments th.sig (scope_of th.sig (judgment d).context) (argument_slots f.ctx (slots f.items)) (judgment d).args)
-      (derives_a_judgment th d system.so_far derives) in
-      let here : places th j.judgment ≡ argument_slots got.0.ctx (slots got.0.items) =
-      ap (places th) same ∙ ap (λ o. unwrap_or (option_map (λ f. argument_slots f.ctx (slots f.items)) o) []) got.1 in
-      record {
-        names = scope;
-        metas_are = refl;
-        knowns_are = is.knowns;
-        places = places th j.judgment;
-        schemes = (bare th scope j form).args;
-        values = subst (λ ps. AreArguments th.sig (scope_of th.sig (judgment d).context) ps (judgment d).args) (sym here) got.2.1;
-      }
+  pub judgments_fit : (j : JudgmentScheme) (d : Derivation) → IsPlainForm th scope j → Derives th d → j.judgment ≡ (judgment d).judgment →
+      JudgmentsFit th.sig scope.metas j (judgment d)
+  judgments_fit j d form derives =
+      forms_fit th scope j (judgment d) (subst (IsRoot th.sig) (sym form.root) tt) form.in_scope (derives_a_judgment th d system.so_far derives)
 
   -- without pairs nothing gives the inputs
   unpaired_inputs : (inst : Instance) (inputs : List StatementInput) (xs : List InputTree) → AllByRecursion IsOfDerivation inputs → AllZip (IsGiven th inst) inputs xs →

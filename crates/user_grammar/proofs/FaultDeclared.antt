@@ -1,5 +1,5 @@
 -- Words that are declared a second time.
-use Rattle.std.proofs.Common.{◌≡◌, ◌↔◌, Bool, true, false, IsTrue, ◌⊎◌, ◌<◌, ◌≤◌, ◌+◌, ◌-◌, ◌++◌, ℕ, List, [], ◌∷◌, map, length, get_or, take, drop, refl, ap, ◌∙◌, sym, subst, inl, inr, Option, None, Some, arith}
+use Rattle.std.proofs.Common.{◌≡◌, ◌↔◌, Bool, false, IsTrue, ◌⊎◌, ◌<◌, ◌≤◌, ◌+◌, ◌-◌, ◌++◌, ℕ, List, [], ◌∷◌, map, length, get_or, take, drop, refl, ap, ◌∙◌, sym, subst, inl, inr, Option, None, Some, arith}
 use Rattle.std.proofs.lemmas.List.{append-nil, append_assoc, take_more, take_all, map-append}
 use Rattle.std.specs.List.{Contains}
 use Rattle.binding_terms.specs.Numbered.{AnyByRecursion}
@@ -18,6 +18,7 @@ use Rattle.user_grammar.specs.declared.fault_found.Found.{Found}
 use Rattle.user_grammar.specs.declared.fault_declared.Declaration.{Declaration}
 use Rattle.user_grammar.proofs.Spellings.{common_spelling as spells_other}
 use Rattle.user_grammar.proofs.FaultLeast.{least_same, least_token_more, least_token_same, least_none, refused}
+use Rattle.rule_schemes.proofs.SpellingLemmas.{IsSpelling_itself}
 use Rattle.binding_terms.proofs.Lists.{any_back, any_contained, any_front, any_split, contained_any, nothing_before, split_last}
 
 -- ---- variables
@@ -102,16 +103,13 @@ pub least_no_common : IsLeast (AtToken Duplicate (IsCommon [])) None
 least_no_common = least_none (AtToken Duplicate (IsCommon [])) (λ c t d x. no_common t x.2)
 
 -- two declared words have a common spelling where one spells the other
-itself : (name : List ℕ) → IsSpelling name name
-itself name = ([], sym (append-nil name), tt)
-
 spelled_itself : (d : Declared) → IsSpelledAs d d.token.text
 spelled_itself d = by_sort d.sort d.token
   where
     by_sort : (s : Sort) (t : PlainToken) → IsSpelledAs (declared_as s t) t.text
     by_sort a_terminal t = refl
-    by_sort a_category t = itself t.text
-    by_sort a_variable t = itself t.text
+    by_sort a_category t = IsSpelling_itself t.text
+    by_sort a_variable t = IsSpelling_itself t.text
 
 both_names : (one other word : List ℕ) → IsSpelling one word → IsSpelling other word → IsSpelling one other ⊎ IsSpelling other one
 both_names one other word a b = spells_other one other a.0 b.0 (sym a.1 ∙ b.1) a.2 b.2
@@ -124,9 +122,6 @@ one_spells_other a_category a_category t u word a b = both_names t.text u.text w
 one_spells_other a_category a_variable t u word a b = both_names t.text u.text word a b
 one_spells_other a_variable a_category t u word a b = both_names t.text u.text word a b
 one_spells_other a_variable a_variable t u word a b = both_names t.text u.text word a b
-
-pub common_by_first : (one other : Declared) (p : Bool) → (IsTrue p ↔ IsSpelledAs one other.token.text) → p ≡ true → IsTrue true ↔ HaveCommon one other
-common_by_first one other p is yes_is = ((λ t. record { word = other.token.text; one_spelled = is.0 yes_is; other_spelled = spelled_itself other }), (λ h. refl))
 
 pub common_by_second : (one other : Declared) (p q : Bool) → (IsTrue p ↔ IsSpelledAs one other.token.text) → (IsTrue q ↔ IsSpelledAs other one.token.text) → p ≡ false
     → IsTrue q ↔ HaveCommon one other
@@ -152,9 +147,6 @@ token_more view c xs i d f a r lt found is all =
     subst (λ ys. IsLeast (AtToken c (IsOneToken ys)) r) more
     (least_token_more c (IsOneToken ts) (IsOneToken (ts ++ t ∷ [])) t f a r
     (λ s y. record { is = any_front (λ one. one ≡ s) ts (t ∷ []) y.is }) (one_token_cases ts t) (record { is = any_back (λ one. one ≡ t) ts (t ∷ []) (inl refl) }) found is all)
-
-pub least_no_token : (c : Code) → IsLeast (AtToken c (IsOneToken [])) None
-least_no_token c = least_none (AtToken c (IsOneToken [])) (λ o t d x. x.2.is)
 
 -- ---- second variables
 

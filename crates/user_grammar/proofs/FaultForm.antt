@@ -1,17 +1,15 @@
 -- Productions without an item, and productions that are one slot alone.
-use Rattle.std.proofs.Common.{drop-cons, suc, ◌≡◌, ◌↔◌, Bool, true, false, IsTrue, ◌<◌, ◌+◌, ℕ, List, [], ◌∷◌, length, get_or, drop, refl, ap, ◌∙◌, sym, subst, inl, inr, Some, arith}
+use Rattle.std.proofs.Common.{drop-cons, suc, ◌≡◌, ◌↔◌, Bool, true, false, IsTrue, ◌<◌, ◌+◌, ℕ, List, [], ◌∷◌, length, get_or, drop, refl, ap, ◌∙◌, sym, subst, inl, inr, arith}
 use Rattle.sy_base.specs.Tokens.{PlainToken}
-use Rattle.sy_base.specs.declared.fault.Code.TheVariants.{SingleCategory}
 use Rattle.proof_lexer.specs.View.{token_view}
 use Rattle.outline_reader.specs.Plain.{PlainPortion, plain_form}
 use Rattle.proof_lexer.specs.declared.token.Token.{Token}
 use Rattle.user_grammar.specs.Production.{IsMark, AreBrackets, AreWords, no_brackets, brackets, one_more, last_one}
 use Rattle.user_grammar.specs.Fault.{IsSlotWord, IsOneSlot}
-use Rattle.user_grammar.specs.Finding.{BracketsLeft, GoesOn, IsLeast, IsSingle, SingleOf}
-use Rattle.user_grammar.specs.declared.fault_found.Found.{Found}
+use Rattle.user_grammar.specs.Finding.{BracketsLeft, GoesOn, IsSingle}
 use Rattle.user_grammar.specs.declared.fault_form.Expected.{Expected}
 use Rattle.user_grammar.specs.declared.fault_form.Expected.TheVariants.{Opening, Name, Comma}
-use Rattle.user_grammar.proofs.FaultLeast.{refused, least_named}
+use Rattle.user_grammar.proofs.FaultLeast.{refused}
 
 pub bracket_goes_on : (t : PlainToken) → IsMark 91 t → GoesOn Opening t Name
 bracket_goes_on t is = record { goes_on = λ rest. ((λ b. b.1), (λ b. (is, b))) }
@@ -58,16 +56,6 @@ one_slot portions t rest r slot is = ((λ y. (slot, open_there rest (is.0 y))), 
 
 pub no_single : (portions : List PlainPortion) (t : PlainToken) (rest : List PlainToken) (s : PlainToken) → (IsOneSlot portions (t ∷ rest) → ⊥) → IsSingle portions (t ∷ rest) s → ⊥
 no_single portions t rest s none is = none (subst (IsOneSlot portions) (sym is.split) is.one)
-
--- the first token of the form is the one that stands there
-pub single_first : (portions : List PlainPortion) (name : List ℕ) (t : PlainToken) (rest : List PlainToken) (f : Found) → f.code ≡ SingleCategory → token_view f.token.now ≡ t → f.detail.now ≡ name
-    → IsOneSlot portions (t ∷ rest) → IsLeast (SingleOf portions name (t ∷ rest)) (Some f)
-single_first portions name t rest f code token detail one =
-    least_named SingleCategory name (IsSingle portions (t ∷ rest)) t f code token detail (record { rest = rest; split = refl; one = one })
-    (λ s x. sym (first_same t s rest x.rest x.split))
-  where
-    first_same : (t s : PlainToken) (rest more : List PlainToken) → t ∷ rest ≡ s ∷ more → t ≡ s
-    first_same t s rest more e = cc
 
 at_drop : (xs : List Token) (i : ℕ) (d : Token) → i < length xs → drop i xs ≡ get_or xs i d ∷ drop (i + 1) xs
 at_drop xs i d lt = let e : suc i ≡ i + 1 = omega arith in drop-cons xs i d lt ∙ ap (λ n. get_or xs i d ∷ drop n xs) e

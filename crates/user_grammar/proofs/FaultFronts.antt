@@ -1,7 +1,7 @@
 -- The rule on categories of contexts, by its parts.
 use Rattle.std.proofs.Common.{◌≡◌, ◌↔◌, ◌⊎◌, ◌<◌, ◌≤◌, ◌+◌, ℕ, suc, Bool, true, false, IsTrue, List, [], ◌∷◌, length, get_or, take, drop, None, Some, refl, ap, ◌∙◌, sym, arith}
 use Rattle.std.proofs.lemmas.List.{length-map, length-take-le}
-use Rattle.std.specs.List.{AllByRecursion, Contains}
+use Rattle.std.specs.List.{AllByRecursion}
 use Rattle.sy_base.specs.Tokens.{PlainToken}
 use Rattle.proof_lexer.specs.View.{token_view}
 use Rattle.proof_lexer.specs.declared.token.Token.{Token}
@@ -27,10 +27,6 @@ pub always : {P : Type 0} → P → IsTrue true ↔ P
 always p = ((λ t. p), (λ q. refl))
 
 module _ (portions : List PlainPortion) (written other : WrittenCategory) where
-  pub inside_is_kept : (front : List PlainToken) (place : Place) (token : PlainToken) (r : Bool) → (IsTrue r ↔ IsOutside place token) → r ≡ false
-      → IsTrue true ↔ IsInFront portions written other front place token
-  inside_is_kept front place token r is none = always (λ out word. absurd (refused r is none out))
-
   pub no_word_is_kept : (front : List PlainToken) (place : Place) (token : PlainToken) (r : Bool) → (IsTrue r ↔ IsWordOf portions written token) → r ≡ false
       → IsTrue true ↔ IsInFront portions written other front place token
   no_word_is_kept front place token r is none = always (λ out word. absurd (refused r is none word))

@@ -13,10 +13,10 @@ use Rattle.binding_terms.specs.declared.grammar.CatId.{CatId}
 use Rattle.binding_terms.specs.declared.grammar.Item.{Item}
 use Rattle.binding_terms.specs.declared.grammar.Item.TheVariants.{Word, Slot, Binder}
 use Rattle.binding_terms.specs.declared.grammar.Prod.{Prod}
-use Rattle.rule_schemes.specs.Reading.{IsSpelling}
+use Rattle.rule_schemes.specs.Reading.{IsSpelling, IsCategoryWord}
 use Rattle.outline_reader.specs.Plain.{PlainPortion}
 use Rattle.user_grammar.specs.File.{WrittenCategory, listed, categories}
-use Rattle.user_grammar.specs.Names.{category_names, variable_names, IsCategoryWord}
+use Rattle.user_grammar.specs.Names.{category_names, variable_names}
 use Rattle.user_grammar.specs.Production.{IsMark, AreBrackets, no_brackets, brackets, AreWords, one_more, last_one, AreNumbers, AreItems, no_items, terminal, binder, slot, IsProduction}
 use Rattle.user_grammar.specs.Grammar.{AreForms, no_forms, variable, production, IsWritten}
 use Rattle.user_grammar.specs.Fault.{ExactlyOne, DeclaresVariable, IsBinderWord, Place, outside, behind_slot, slot as to_slot, IsOutside, StandsOutside, IsEmptyForm, HasNoBrackets, IsWordOf, IsEntryForm, IsOnlyInFront, IsContextCategory}
@@ -24,7 +24,8 @@ use Rattle.user_grammar.proofs.Spellings.{Spells, apart_left, one_category}
 use Rattle.user_grammar.proofs.OneReading.{not_opened}
 use Rattle.user_grammar.proofs.FaultLawsWords.{SpellsOption, declared, same_names, slot_word, no_slot_word, no_binder_word, binder_word, slot_or_binder}
 use Rattle.user_grammar.proofs.FaultLawsPlaces.{Leads, leads, one_next, IsAhead, items_ahead, ahead_behind}
-use Rattle.user_grammar.proofs.FaultLawsFiles.{IsFound, found, own_variable, own_spelling, variable_items}
+use Rattle.rule_schemes.proofs.SpellingLemmas.{IsSpelling_itself}
+use Rattle.user_grammar.proofs.FaultLawsFiles.{IsFound, found, own_variable, variable_items}
 use Rattle.binding_terms.proofs.Lists.{all_contained, all_right, none_of_them, numbered_at}
 
 -- ---- numbers
@@ -303,7 +304,7 @@ module _ (portions : List PlainPortion) (sig : Signature) (file : IsWritten port
           → AllByRecursion (ProdFits sig) prods → ((word : List ℕ) → SpellsOption word var → Spells sig.cats there.number word) → AllByRecursion InFront forms
       all_in_front no_forms fit spells = tt
       all_in_front (variable {token = token} is more) fit spells = (
-        (λ t stands word. absurd (none_there (variable_items portions sig file token is.0 (spells token.text (own_spelling token.text))) tt t stands word)),
+        (λ t stands word. absurd (none_there (variable_items portions sig file token is.0 (spells token.text (IsSpelling_itself token.text))) tt t stands word)),
         all_in_front more fit (λ word never. absurd never),
       )
       all_in_front (production {form = form} {prod = prod} not made more) fit spells =

@@ -1,11 +1,9 @@
 -- What a signature has of each written category: its number, its productions, and that they fit.
-use Rattle.std.proofs.Common.{◌≡◌, ◌≢◌, ◌<◌, ◌+◌, ℕ, zero, suc, Bool, false, cond, List, [], ◌∷◌, ◌++◌, map, Option, Some, refl, ap, ◌∙◌, sym, subst, inl, inr, slice_get, count_by, arith}
-use Rattle.std.proofs.lemmas.List.{append-nil}
-use Rattle.std.proofs.lemmas.List.Sums.{sum_by-cons, sum_by-append}
+use Rattle.std.proofs.Common.{◌≡◌, ◌≢◌, ◌<◌, ◌+◌, ℕ, zero, suc, Bool, false, List, [], ◌∷◌, map, Option, Some, refl, ap, ◌∙◌, sym, subst, slice_get, count_by, arith}
 use Rattle.std.specs.Option.{MatchOption}
 use Rattle.std.specs.List.{AllByRecursion, AllZip, Contains}
 use Rattle.sy_base.specs.Tokens.{PlainToken}
-use Rattle.binding_terms.specs.Numbered.{AnyByRecursion, AllNumbered, AreDifferent}
+use Rattle.binding_terms.specs.Numbered.{AreDifferent}
 use Rattle.binding_terms.specs.Signature.{Signature, Place, slots, PlaceFits, ProdFits}
 use Rattle.binding_terms.specs.declared.grammar.Cat.{Cat}
 use Rattle.binding_terms.specs.declared.grammar.Item.TheVariants.{Binder}
@@ -20,12 +18,8 @@ use Rattle.user_grammar.specs.Fault.{category_texts, IsSlotWord, IsOneSlot}
 use Rattle.user_grammar.proofs.Spellings.{Spells}
 use Rattle.user_grammar.proofs.FaultLawsWords.{SpellsOption, same_names}
 use Rattle.user_grammar.proofs.FaultLawsForms.{IsRead, no_items_left, single_item}
+use Rattle.rule_schemes.proofs.SpellingLemmas.{IsSpelling_itself}
 use Rattle.binding_terms.proofs.Lists.{all_also, all_append, all_front, all_right, any_not_none, counted_before, counted_behind, number_of}
-
--- ---- lists
-
-pub own_spelling : (name : List ℕ) → IsSpelling name name
-own_spelling name = ([], sym (append-nil name), tt)
 
 -- ---- the numbers of productions
 
@@ -147,7 +141,7 @@ module _ (portions : List PlainPortion) (sig : Signature) (file : IsWritten port
     record {
       items = Binder (record { 0 = c }) ∷ [];
       own = token.text ∷ [];
-      read = variable_items token is.0 (spells token.text (own_spelling token.text));
+      read = variable_items token is.0 (spells token.text (IsSpelling_itself token.text));
       different = (tt, tt);
       binds = tt;
     },

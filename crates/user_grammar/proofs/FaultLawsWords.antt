@@ -1,16 +1,15 @@
 -- Which words of a file are slots and binders, by its portions and by its signature.
-use Rattle.std.proofs.Common.{◌≡◌, ℕ, zero, suc, List, [], ◌∷◌, map, Option, Some, ap, sym, subst, inl, inr, slice_get, arith}
+use Rattle.std.proofs.Common.{◌≡◌, ℕ, zero, suc, List, [], ◌∷◌, map, Option, sym, subst, inl, inr}
 use Rattle.std.specs.Option.{MatchOption}
-use Rattle.std.specs.List.{AllByRecursion, Contains}
 use Rattle.sy_base.specs.Tokens.{PlainToken}
 use Rattle.binding_terms.specs.Numbered.{AnyByRecursion}
 use Rattle.binding_terms.specs.Signature.{Signature}
 use Rattle.binding_terms.specs.declared.grammar.Cat.{Cat}
 use Rattle.binding_terms.specs.declared.grammar.Prod.{Prod}
-use Rattle.rule_schemes.specs.Reading.{IsSpelling}
+use Rattle.rule_schemes.specs.Reading.{IsSpelling, IsCategoryWord}
 use Rattle.outline_reader.specs.Plain.{PlainPortion}
 use Rattle.user_grammar.specs.File.{WrittenCategory, listed, categories, assumed}
-use Rattle.user_grammar.specs.Names.{category_names, names, IsCategoryWord, IsNoSpelling}
+use Rattle.user_grammar.specs.Names.{category_names, names, IsNoSpelling}
 use Rattle.user_grammar.specs.Production.{IsVariable}
 use Rattle.user_grammar.specs.Grammar.{AreForms, no_forms, variable, production, AreProductions, IsWritten}
 use Rattle.user_grammar.specs.Fault.{category_texts, DeclaresVariable, SpellsVariable, IsSlotWord, IsBinderWord}

@@ -1,9 +1,6 @@
 -- The least of families of faults.
 use Rattle.std.proofs.Common.{◌≡◌, ◌↔◌, Bool, true, false, IsTrue, ◌⊎◌, ◌<◌, ◌≤◌, ◌+◌, ◌++◌, ℕ, List, [], ◌∷◌, map, length, get_or, take, refl, ap, ◌∙◌, sym, subst, inl, inr, Option, None, Some, arith}
-use Rattle.std.proofs.lemmas.List.{take_more, take_all, map-append}
-use Rattle.std.proofs.lemmas.List.Elements.{Contains-push, Contains-push_cases, Contains-append_left, Contains-append_right, Contains-append_cases}
-use Rattle.std.specs.List.{Contains}
-use Rattle.binding_terms.specs.Numbered.{AnyByRecursion}
+use Rattle.std.proofs.lemmas.List.{take_more, map-append}
 use Rattle.sy_base.specs.Tokens.{PlainToken}
 use Rattle.sy_base.specs.declared.fault.Code.{Code}
 use Rattle.proof_lexer.specs.View.{token_view}
@@ -37,9 +34,6 @@ told_by_numbers k r f l s g m t h (inr a) (inr b) = inr (a.0 ∙ b.0, within_tra
 
 told_trans : (a b c : Code) (s t u : PlainToken) → IsToldFirst a s b t → IsToldFirst b t c u → IsToldFirst a s c u
 told_trans a b c s t u first second = told_by_numbers s.line (rank a) s.from t.line (rank b) t.from u.line (rank c) u.from first second
-
-within_or : (r f s g : ℕ) → (Within r f s g → ⊥) → Within s g r f
-within_or r f s g none = grind (arith, none)
 
 -- of two faults one is told first
 pub other_first : (k r f l s g : ℕ) → (Told k r f l s g → ⊥) → Told l s g k r f
@@ -111,9 +105,6 @@ least_none P none = record { least = none }
 
 -- ---- members of a list
 
-pub least_of_no_members : {A : Type 0} (F : A → Family) → IsLeast (OfSome F []) None
-least_of_no_members F = record { least = λ o t w x. x.some }
-
 pub least_push : {A : Type 0} (F : A → Family) (xs : List A) (x : A) (a b r : Option Found) → IsEarlierOf a b r
     → IsLeast (OfSome F xs) a → IsLeast (F x) b → IsLeast (OfSome F (xs ++ x ∷ [])) r
 least_push F xs x a b r is all one = least_same (Either (OfSome F xs) (F x)) (OfSome F (xs ++ x ∷ [])) r
@@ -128,11 +119,6 @@ least_more view F xs i d a b r lt is all one =
     let more : map view (take i xs) ++ view (get_or xs i d) ∷ [] ≡ map view (take (i + 1) xs) =
     sym (map-append view (take i xs) (get_or xs i d ∷ [])) ∙ ap (map view) (sym (take_more xs i d lt)) in
     subst (λ ys. IsLeast (OfSome F ys) r) more (least_push F (map view (take i xs)) (view (get_or xs i d)) a b r is all one)
-
--- all of them were looked at
-pub least_of_all : {X A : Type 0} (view : X → A) (F : A → Family) (xs : List X) (i : ℕ) (r : Option Found) → length xs ≤ i
-    → IsLeast (OfSome F (map view (take i xs))) r → IsLeast (OfSome F (map view xs)) r
-least_of_all view F xs i r le all = subst (λ ys. IsLeast (OfSome F (map view ys)) r) (take_all i xs le) all
 
 -- ---- one token
 

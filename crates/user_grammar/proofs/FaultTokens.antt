@@ -1,7 +1,6 @@
 -- Faults at the tokens of a production, by their places.
 use Rattle.std.proofs.Common.{reverse, ◌≡◌, ◌↔◌, Bool, true, false, IsTrue, ◌⊎◌, ◌<◌, ◌≤◌, ◌+◌, ◌-◌, ◌++◌, ℕ, List, [], ◌∷◌, map, length, get_or, take, drop, refl, ap, ◌∙◌, sym, subst, inl, inr, Option, None, Some, arith, suc, drop-cons, length-append}
-use Rattle.std.proofs.lemmas.List.{append_assoc, take_more, take_all, map-append, reverse-append, reverse-reverse, take-append-drop, length-map, length-take-le, length-drop}
-use Rattle.binding_terms.specs.Numbered.{AnyByRecursion}
+use Rattle.std.proofs.lemmas.List.{append_assoc, take_more, map-append, reverse-append, take-append-drop, length-map, length-take-le}
 use Rattle.sy_base.specs.Tokens.{PlainToken}
 use Rattle.sy_base.specs.declared.fault.Code.{Code}
 use Rattle.sy_base.specs.declared.fault.Code.TheVariants as code
@@ -17,7 +16,7 @@ use Rattle.user_grammar.specs.FindingPlaces.{AreBinders, IsWrongAt, HasCode, unk
 use Rattle.user_grammar.specs.declared.fault_found.Found.{Found}
 use Rattle.user_grammar.proofs.FaultLeast.{least_same, least_none, least_of_two}
 use Rattle.user_grammar.proofs.FaultPlaces.{place_once}
-use Rattle.binding_terms.proofs.Lists.{any_back, any_front, nothing_before, same_split_behind, split_last}
+use Rattle.binding_terms.proofs.Lists.{nothing_before, same_split_behind, split_last}
 
 -- ---- binders
 

@@ -6,7 +6,8 @@ use Rattle.binding_terms.specs.Signature.{slots, is_word}
 use Rattle.binding_terms.specs.declared.grammar.Cat.{Cat}
 use Rattle.binding_terms.specs.declared.grammar.Item.{Item}
 use Rattle.outline_reader.specs.Plain.{PlainPortion}
-use Rattle.user_grammar.specs.Names.{IsCategoryWord, AllApart, names}
+use Rattle.rule_schemes.specs.Reading.{IsCategoryWord}
+use Rattle.user_grammar.specs.Names.{AllApart, names}
 use Rattle.user_grammar.specs.Production.{IsMark, AreBrackets, no_brackets, brackets, AreWords, one_more, last_one, AreNumbers}
 use Rattle.user_grammar.specs.Fault.{behind_slot, IsSlotWord, IsBinderWord, StandsForItself, StandsAt, StandsOutside, HasNoBrackets}
 use Rattle.user_grammar.proofs.MadeParts.{Part, itself, bound_as, part_of, AreNamesOf, IsSound, Parts, no_parts, terminal_part, binder_part, slot_part}

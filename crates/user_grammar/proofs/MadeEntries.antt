@@ -8,9 +8,9 @@ use Rattle.binding_terms.specs.declared.grammar.Cat.{Cat}
 use Rattle.binding_terms.specs.declared.grammar.Item.{Item}
 use Rattle.binding_terms.specs.declared.grammar.Item.TheVariants.{Slot}
 use Rattle.outline_reader.specs.Plain.{PlainPortion}
-use Rattle.rule_schemes.specs.Reading.{IsSpelling}
+use Rattle.rule_schemes.specs.Reading.{IsSpelling, IsCategoryWord}
 use Rattle.user_grammar.specs.File.{WrittenCategory, listed, categories}
-use Rattle.user_grammar.specs.Names.{IsAmong, IsCategoryWord, AllApart, names, category_names, variable_names}
+use Rattle.user_grammar.specs.Names.{IsAmong, AllApart, names, category_names, variable_names}
 use Rattle.user_grammar.specs.Fault.{category_texts, IsSlotWord, IsBinderWord, StandsOutside, HasNoBrackets, ExactlyOne, IsContextCategory}
 use Rattle.user_grammar.specs.MadeItems.{IsMadeCategory}
 use Rattle.user_grammar.proofs.Spellings.{one_category, apart_left}

@@ -11,8 +11,8 @@ use Rattle.binding_terms.specs.declared.grammar.Item.{Item}
 use Rattle.binding_terms.specs.declared.grammar.Item.TheVariants.{Word, Slot, Binder}
 use Rattle.binding_terms.specs.declared.grammar.Prod.{Prod}
 use Rattle.outline_reader.specs.Plain.{PlainPortion}
-use Rattle.rule_schemes.specs.Reading.{IsSpelling}
-use Rattle.user_grammar.specs.Names.{IsCategoryWord, AllApart, AllDiffer, names}
+use Rattle.rule_schemes.specs.Reading.{IsSpelling, IsCategoryWord}
+use Rattle.user_grammar.specs.Names.{AllApart, AllDiffer, names}
 use Rattle.user_grammar.specs.Production.{AreBrackets, AreNumbers}
 use Rattle.user_grammar.specs.Fault.{IsOneSlot}
 use Rattle.user_grammar.specs.MadeItems.{IsBinderSpelling}

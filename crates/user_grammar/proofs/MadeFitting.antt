@@ -14,9 +14,9 @@ use Rattle.binding_terms.specs.Signature.{Signature, is_empty_form, ProdFits, Ca
 use Rattle.binding_terms.specs.declared.grammar.Cat.{Cat}
 use Rattle.binding_terms.specs.declared.grammar.Prod.{Prod}
 use Rattle.outline_reader.specs.Plain.{PlainPortion}
-use Rattle.rule_schemes.specs.Reading.{IsSpelling}
+use Rattle.rule_schemes.specs.Reading.{IsSpelling, IsCategoryWord}
 use Rattle.user_grammar.specs.File.{WrittenCategory, listed, categories, assumed as assumed_texts}
-use Rattle.user_grammar.specs.Names.{IsAmong, IsCategoryWord, AllApart, names, category_names}
+use Rattle.user_grammar.specs.Names.{IsAmong, AllApart, names, category_names}
 use Rattle.user_grammar.specs.Production.{IsVariable, IsProduction}
 use Rattle.user_grammar.specs.Grammar.{AreForms, no_forms, variable, production, AreProductions}
 use Rattle.user_grammar.specs.Fault.{category_texts, IsEmptyForm, IsContextCategory, bad_context, HasNoFault}

@@ -1,5 +1,5 @@
 -- Each production of a grammar without a fault fits, where its categories of contexts are as they should be.
-use Rattle.std.proofs.Common.{◌≡◌, ◌<◌, ℕ, zero, suc, Bool, true, false, List, [], ◌∷◌, length, Option, Some, refl, sym, subst, inl, inr, ◌⊎◌, slice_get, slice_index_or, arith}
+use Rattle.std.proofs.Common.{◌≡◌, ℕ, Bool, true, false, List, [], ◌∷◌, length, Option, Some, refl, sym, subst, inl, inr, ◌⊎◌, slice_get, arith}
 use Rattle.std.specs.Option.{MatchOption}
 use Rattle.std.specs.Bool.{MatchBool}
 use Rattle.std.specs.List.{AllByRecursion, AllZip, Contains}
@@ -9,9 +9,9 @@ use Rattle.binding_terms.specs.Signature.{Signature, slots, binders, IsPlain, Ex
 use Rattle.binding_terms.specs.declared.grammar.Cat.{Cat}
 use Rattle.binding_terms.specs.declared.grammar.Prod.{Prod}
 use Rattle.outline_reader.specs.Plain.{PlainPortion}
-use Rattle.rule_schemes.specs.Reading.{IsSpelling}
+use Rattle.rule_schemes.specs.Reading.{IsSpelling, IsCategoryWord}
 use Rattle.user_grammar.specs.File.{WrittenCategory, listed, categories}
-use Rattle.user_grammar.specs.Names.{IsAmong, IsCategoryWord, AllApart, names}
+use Rattle.user_grammar.specs.Names.{IsAmong, AllApart, names}
 use Rattle.user_grammar.specs.Fault.{category_texts, IsSlotWord, StandsOutside, IsOneSlot, IsEmptyForm, IsEntryForm, HasNoBrackets, empty_production, single_category, HasNoFault}
 use Rattle.user_grammar.specs.MadeItems.{IsMadeCategory}
 use Rattle.user_grammar.proofs.MadeParts.{AreNamesOf, IsSound, Parts}

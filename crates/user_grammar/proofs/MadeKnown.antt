@@ -1,7 +1,5 @@
 -- The words of categories and variables, and the forms of each category, of a grammar without a fault.
-use Rattle.std.proofs.Common.{◌≡◌, ℕ, zero, suc, List, [], ◌∷◌, ◌++◌, map, Option, None, Some, refl, ap, ◌∙◌, sym, subst, inl, inr, arith}
-use Rattle.std.proofs.lemmas.List.{append_assoc}
-use Rattle.std.proofs.lemmas.List.Elements.{Contains-append_right}
+use Rattle.std.proofs.Common.{◌≡◌, ℕ, zero, suc, List, [], ◌∷◌, ◌++◌, map, Option, None, Some, refl, ap, ◌∙◌, sym, subst, inl, inr}
 use Rattle.std.specs.Option.{MatchOption}
 use Rattle.std.specs.List.{AllByRecursion, AllZip, Contains}
 use Rattle.sy_base.specs.Tokens.{PlainToken}
@@ -10,9 +8,9 @@ use Rattle.binding_terms.specs.Numbered.{AnyByRecursion}
 use Rattle.binding_terms.specs.declared.grammar.Cat.{Cat}
 use Rattle.binding_terms.specs.declared.grammar.Prod.{Prod}
 use Rattle.outline_reader.specs.Plain.{PlainPortion}
-use Rattle.rule_schemes.specs.Reading.{IsSpelling}
+use Rattle.rule_schemes.specs.Reading.{IsSpelling, IsCategoryWord}
 use Rattle.user_grammar.specs.File.{WrittenCategory, listed, categories}
-use Rattle.user_grammar.specs.Names.{names_if, names, category_names, IsCategoryWord, AllApart}
+use Rattle.user_grammar.specs.Names.{names_if, names, category_names, AllApart}
 use Rattle.user_grammar.specs.Production.{IsVariable}
 use Rattle.user_grammar.specs.Grammar.{IsCategory, AreForms, no_forms, variable, production, AreProductions}
 use Rattle.user_grammar.specs.Fault.{category_texts, AreVariables, no_variables, a_word, a_production, SpellsVariable, second_variable, duplicate, unknown_word, bad_binder, binder_twice, HasNoFault}

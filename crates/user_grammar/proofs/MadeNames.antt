@@ -36,10 +36,6 @@ other_way one other apart = record { nothing_common = λ word spells also. apart
 abbrev pub Across : List (List ℕ) → List (List ℕ) → Type 0
 Across some others = AllByRecursion (λ (name : List ℕ). AllByRecursion (AreApart name) others) some
 
-across_none : (some : List (List ℕ)) → Across some []
-across_none [] = tt
-across_none (name ∷ some) = (tt, across_none some)
-
 across_one : (name : List ℕ) (some others : List (List ℕ)) → AllByRecursion (AreApart name) some → Across some others → Across some (name ∷ others)
 across_one name [] others apart across = tt
 across_one name (one ∷ some) others apart across = ((other_way name one apart.0, across.0), across_one name some others apart.1 across.1)

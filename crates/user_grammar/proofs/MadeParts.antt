@@ -7,7 +7,7 @@ use Rattle.binding_terms.specs.declared.grammar.Cat.{Cat}
 use Rattle.binding_terms.specs.declared.grammar.CatId.{CatId}
 use Rattle.outline_reader.specs.Plain.{PlainPortion}
 use Rattle.user_grammar.specs.File.{listed}
-use Rattle.user_grammar.specs.Names.{IsCategoryWord}
+use Rattle.rule_schemes.specs.Reading.{IsCategoryWord}
 use Rattle.user_grammar.specs.Production.{IsTerminal, IsMark, AreBrackets, no_brackets, brackets, AreWords, one_more, last_one}
 use Rattle.user_grammar.specs.Fault.{Place, outside, behind_slot, before_word, behind_word, IsOutside, IsSlotWord, IsBinderWord, IsPlaceBehind, at_start, behind_one_more, slot, item, opens, in_brackets, separator, closes_behind, StandsAt, StandsOutside, IsUnknown, IsWrongInBrackets, no_word, no_comma, not_closed, IsSecondBinder}
 use Rattle.user_grammar.specs.MadeItems.{IsBinderSpelling, AreBracketsFrom}

@@ -1,7 +1,6 @@
 -- What a form stands for, step by step: the front of the tokens, where what they stand for is known to be there.
 use Rattle.std.proofs.Common.{◌≡◌, Bool, true, false, IsTrue, ◌≤◌, ◌+◌, add-one, ◌<◌, map, length, take, drop, get_or, drop-cons, ℕ, zero, suc, List, [], ◌∷◌, ◌++◌, Option, None, Some, refl, ap, ◌∙◌, sym, subst, inl, inr, ◌==◌, slice_get, arith, ◌↔◌}
 use Rattle.std.proofs.lemmas.List.{take_more, append-nil, append_assoc, map-append, take-append-drop, drop_all}
-use Rattle.std.specs.Option.{MatchOption}
 use Rattle.std.proofs.lemmas.Grind.{flat_map-append}
 use Rattle.std.specs.List.{AllByRecursion, AllZip}
 use Rattle.sy_base.specs.Tokens.{PlainToken}
@@ -10,17 +9,16 @@ use Rattle.binding_terms.specs.declared.grammar.CatId.{CatId}
 use Rattle.binding_terms.specs.declared.grammar.Item.{Item}
 use Rattle.binding_terms.specs.declared.grammar.Item.TheVariants.{Word, Slot, Binder}
 use Rattle.binding_terms.specs.declared.grammar.Prod.{Prod}
-use Rattle.rule_schemes.specs.Reading.{IsSpelling, MayBeTerminal}
+use Rattle.rule_schemes.specs.Reading.{MayBeTerminal, IsCategoryWord}
 use Rattle.user_grammar.specs.File.{WrittenCategory, categories, category_in}
-use Rattle.user_grammar.specs.Names.{IsAmong, names_if, names, category_names, variable_names, IsCategoryWord, IsNoSpelling, AllApart}
+use Rattle.user_grammar.specs.Names.{IsAmong, names, category_names, variable_names, IsNoSpelling, AllApart}
 use Rattle.user_grammar.specs.Production.{IsMark, AreBrackets, no_brackets, brackets, AreWords, one_more, last_one, AreNumbers, AreItems, no_items, terminal, binder, slot, IsProduction, IsVariable}
 use Rattle.user_grammar.specs.Grammar.{AreProductions, AreForms, no_forms, variable, production}
 use Rattle.outline_reader.specs.Plain.{plain_portion}
 use Rattle.outline_reader.specs.Views.{portion_view}
 use Rattle.outline_reader.specs.declared.parts.Portion.{Portion}
 use Rattle.user_grammar.specs.Made.{plains}
-use Rattle.user_grammar.specs.MadeItems.{IsFirstVariable, IsBinderSpelling, WordMeans, Means, AreBracketsFrom, IsNotOpened}
-use Rattle.user_grammar.specs.declared.made_tokens.Meaning.{Meaning}
+use Rattle.user_grammar.specs.MadeItems.{IsFirstVariable, IsBinderSpelling, AreBracketsFrom, IsNotOpened}
 use Rattle.user_grammar.specs.declared.made_tokens.Meaning.TheVariants as meaning
 use Rattle.user_grammar.specs.declared.made_tokens.Spot.{Spot}
 use Rattle.user_grammar.specs.declared.made_tokens.Spot.TheVariants.{Outside, BeforeWord, BehindWord}
@@ -29,27 +27,12 @@ use Rattle.binding_terms.proofs.Lists.{empty_within_one, zip_append}
 
 -- ---- words
 
--- a first category whose variable the word does not spell changes nothing
-pub no_variable_more : (cat : Cat) (cats : List Cat) (word : List ℕ) → (MatchOption cat.var ⊥ (λ name. IsSpelling name word) → ⊥)
-    → IsNoSpelling (variable_names cats) word ↔ IsNoSpelling (variable_names (cat ∷ cats)) word
-no_variable_more cat cats word not = by_case cat.var not
-  where
-    by_case : (var : Option (List ℕ)) → (MatchOption var ⊥ (λ name. IsSpelling name word) → ⊥)
-        → IsNoSpelling (variable_names cats) word ↔ IsNoSpelling (names_if var ++ variable_names cats) word
-    by_case None not = (λ h. h, λ h. h)
-    by_case (Some name) not = (λ h. (not, h), λ h. h.1)
-
 no_spelling_joined : (some others : List (List ℕ)) (word : List ℕ) → IsNoSpelling some word → IsNoSpelling others word → IsNoSpelling (some ++ others) word
 no_spelling_joined [] others word none no_other = no_other
 no_spelling_joined (name ∷ some) others word none no_other = (none.0, no_spelling_joined some others word none.1 no_other)
 
 pub no_name : (cats : List Cat) (word : List ℕ) → IsNoSpelling (category_names cats) word → IsNoSpelling (variable_names cats) word → IsNoSpelling (names cats) word
 no_name cats word none no_other = no_spelling_joined (category_names cats) (variable_names cats) word none no_other
-
-pub word_meaning : (cats : List Cat) (token : PlainToken) (m : Meaning) → token.kind ≡ 0 → WordMeans cats token.text m → Means cats token m
-word_meaning cats token (meaning.Slot c) kind means = (kind, means)
-word_meaning cats token (meaning.Binder c) kind means = (kind, means)
-word_meaning cats token meaning.Other kind means = λ same. means
 
 -- ---- brackets
 
@@ -67,11 +50,6 @@ pub opened : (words : List (List ℕ)) (token : PlainToken) (tokens rest : List 
     → (left : List (List ℕ)) × (words ≡ [] ++ left) × AreWords left tokens rest
 opened words token tokens rest mark no_brackets shut = absurd (shut mark)
 opened words token tokens rest mark (brackets is more) shut = (words, refl, more)
-
-pub not_opened_here : (words : List (List ℕ)) (token : PlainToken) (tokens rest : List PlainToken) → (IsMark 91 token → ⊥) → AreBrackets words (token ∷ tokens) rest
-    → (words ≡ []) × (rest ≡ token ∷ tokens)
-not_opened_here words token tokens rest not no_brackets = (refl, refl)
-not_opened_here words token tokens rest not (brackets is more) = absurd (not is)
 
 pub word_taken : (words : List (List ℕ)) (token : PlainToken) (tokens rest : List PlainToken) → AreWords words (token ∷ tokens) rest
     → (left : List (List ℕ)) × (words ≡ (token.text ∷ []) ++ left) × AreBracketsFrom BehindWord left tokens rest
@@ -175,10 +153,6 @@ pub number_next : (own : List (List ℕ)) (word : List ℕ) (words : List (List 
     → (n : ℕ) × (left : List ℕ) × (binds ≡ n ∷ left) × (slice_get own n ≡ Some word) × AreNumbers own words left
 number_next own word words [] are = absurd are
 number_next own word words (n ∷ left) are = (n, left, refl, are.0, are.1)
-
-pub no_number : (own : List (List ℕ)) (binds : List ℕ) → AreNumbers own [] binds → binds ≡ []
-no_number own [] are = refl
-no_number own (n ∷ binds) are = absurd are
 
 pub among_at : (texts : List (List ℕ)) (n : ℕ) (text : List ℕ) → slice_get texts n ≡ Some text → IsAmong texts text
 among_at [] n text at = cc

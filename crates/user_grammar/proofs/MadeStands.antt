@@ -9,9 +9,9 @@ use Rattle.binding_terms.specs.declared.grammar.Item.{Item}
 use Rattle.binding_terms.specs.declared.grammar.Item.TheVariants.{Word, Slot, Binder}
 use Rattle.binding_terms.specs.declared.grammar.Prod.{Prod}
 use Rattle.outline_reader.specs.Plain.{PlainPortion}
-use Rattle.rule_schemes.specs.Reading.{IsSpelling}
+use Rattle.rule_schemes.specs.Reading.{IsSpelling, IsCategoryWord}
 use Rattle.user_grammar.specs.File.{listed}
-use Rattle.user_grammar.specs.Names.{names_if, names, category_names, variable_names, IsAmong, IsCategoryWord, IsNoSpelling, AllApart}
+use Rattle.user_grammar.specs.Names.{names_if, names, category_names, variable_names, IsAmong, IsNoSpelling, AllApart}
 use Rattle.user_grammar.specs.Production.{AreNumbers, AreItems, no_items, terminal, binder, slot, IsProduction}
 use Rattle.user_grammar.specs.MadeItems.{IsBinderSpelling}
 use Rattle.user_grammar.proofs.MadeParts.{Part, itself, bound_as, part_of, AreNamesOf, IsSound, Parts, no_parts, terminal_part, binder_part, slot_part, parts_of_form}

@@ -5,7 +5,8 @@ use Rattle.std.specs.List.{AllByRecursion}
 use Rattle.sy_base.specs.Tokens.{PlainToken}
 use Rattle.binding_terms.specs.declared.grammar.Cat.{Cat}
 use Rattle.outline_reader.specs.Plain.{PlainPortion}
-use Rattle.user_grammar.specs.Names.{IsAmong, IsCategoryWord, names, AllApart, AllDiffer}
+use Rattle.rule_schemes.specs.Reading.{IsCategoryWord}
+use Rattle.user_grammar.specs.Names.{IsAmong, names, AllApart, AllDiffer}
 use Rattle.user_grammar.specs.Production.{IsMark, AreBrackets, no_brackets, brackets, AreWords, one_more, last_one}
 use Rattle.user_grammar.specs.Fault.{Place, outside, behind_slot, before_word, behind_word, IsOutside, IsSlotWord, IsBinderWord, IsPlaceBehind, at_start, behind_one_more, Follows, slot, item, opens, in_brackets, separator, closes, closes_behind, StandsOutside, no_binder, again, IsBinderOf}
 use Rattle.user_grammar.proofs.Spellings.{not_both}

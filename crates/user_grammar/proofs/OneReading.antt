@@ -5,8 +5,8 @@ use Rattle.binding_terms.specs.declared.grammar.Cat.{Cat}
 use Rattle.binding_terms.specs.declared.grammar.Item.{Item}
 use Rattle.binding_terms.specs.declared.grammar.Item.TheVariants.{Word, Slot, Binder}
 use Rattle.binding_terms.specs.declared.grammar.Prod.{Prod}
-use Rattle.rule_schemes.specs.Reading.{MayBeTerminal}
-use Rattle.user_grammar.specs.Names.{names, category_names, variable_names, IsCategoryWord, IsNoSpelling, AllApart, AllDiffer}
+use Rattle.rule_schemes.specs.Reading.{MayBeTerminal, IsCategoryWord}
+use Rattle.user_grammar.specs.Names.{names, category_names, variable_names, IsNoSpelling, AllApart, AllDiffer}
 use Rattle.user_grammar.specs.Production.{IsMark, AreNumbers, AreItems, no_items, terminal, binder, slot, IsProduction, IsVariable}
 use Rattle.user_grammar.specs.Grammar.{AreForms, no_forms, variable, production}
 use Rattle.user_grammar.proofs.Spellings.{Spells, one_category, one_variable, not_both, no_category, no_variable, apart_left, apart_right}

@@ -1,11 +1,11 @@
 -- Names that have no common spelling, and the one name that a word spells.
-use Rattle.std.proofs.Common.{◌≡◌, ◌≢◌, ℕ, zero, suc, List, [], ◌∷◌, ◌++◌, Option, None, Some, refl, ap, ◌∙◌, sym, subst, inl, inr, ◌⊎◌, slice_get, ◌↔◌, Bool, true, false, not, IsTrue, IsFalse}
-use Rattle.std.proofs.lemmas.List.{append-nil, append_cancel_left}
+use Rattle.std.proofs.Common.{◌≡◌, ◌≢◌, ℕ, zero, suc, List, [], ◌∷◌, ◌++◌, Option, None, Some, refl, ap, ◌∙◌, sym, subst, inl, inr, ◌⊎◌, slice_get, ◌↔◌, true, false, IsTrue}
 use Rattle.std.specs.Option.{MatchOption}
 use Rattle.std.specs.List.{AllByRecursion}
 use Rattle.binding_terms.specs.declared.grammar.Cat.{Cat}
-use Rattle.rule_schemes.specs.Reading.{IsEnding, IsSpelling, IsVariableWord}
-use Rattle.user_grammar.specs.Names.{names_if, category_names, variable_names, names, IsCategoryWord, IsNoSpelling, AreApart, AllApart, AllDiffer}
+use Rattle.rule_schemes.specs.Reading.{IsEnding, IsSpelling, IsVariableWord, IsCategoryWord}
+use Rattle.user_grammar.specs.Names.{names_if, category_names, variable_names, names, IsNoSpelling, AreApart, AllApart, AllDiffer}
+use Rattle.rule_schemes.proofs.SpellingLemmas.{IsSpelling_itself}
 use Rattle.binding_terms.proofs.Lists.{all_front, all_right}
 
 pub apart_left : (xs ys : List (List ℕ)) → AllApart (xs ++ ys) → AllApart xs
@@ -129,34 +129,14 @@ apart_names one other not_one not_other = record {
     neither (inl h) = not_one h
     neither (inr h) = not_other h
 
-itself : (name : List ℕ) → IsSpelling name name
-itself name = ([], sym (append-nil name), tt)
-
 pub spelling_is_not_apart : (one other : List ℕ) → AreApart one other → IsSpelling one other → ⊥
-spelling_is_not_apart one other apart spells = apart.nothing_common other spells (itself other)
+spelling_is_not_apart one other apart spells = apart.nothing_common other spells (IsSpelling_itself other)
 
 pub other_is_not_apart : (one other : List ℕ) → AreApart one other → IsSpelling other one → ⊥
-other_is_not_apart one other apart spells = apart.nothing_common one (itself one) spells
-
--- whether a word that begins with a name is a spelling of it
-pub spelled_by_ending : (name word ending : List ℕ) (r : Bool) → word ≡ name ++ ending → (IsTrue r ↔ AllByRecursion IsEnding ending) → IsTrue r ↔ IsSpelling name word
-spelled_by_ending name word ending r is ends = (
-  λ t. (ending, is, ends.0 t),
-  λ spells. ends.1 (subst (AllByRecursion IsEnding) (append_cancel_left name spells.0 ending (sym spells.1 ∙ is)) spells.2),
-)
+other_is_not_apart one other apart spells = apart.nothing_common one (IsSpelling_itself one) spells
 
 pub spells_one : (cats : List Cat) (c : ℕ) (word : List ℕ) → IsCategoryWord cats c word → IsTrue false ↔ IsNoSpelling (category_names cats) word
 spells_one cats c word at = (
   λ t. (let never : false ≡ true = t in cc),
   λ none. (let found = found_category (λ (name : List ℕ). IsSpelling name word → ⊥) cats c word none at in absurd (found.1 found.2)),
-)
-
-pub not_apart : (one other : List ℕ) (p : Bool) → (IsTrue p ↔ IsSpelling one other) → IsTrue p → IsTrue false ↔ AreApart one other
-not_apart one other p is holds = ((λ t. (let never : false ≡ true = t in cc)), λ apart. absurd (spelling_is_not_apart one other apart (is.0 holds)))
-
-pub apart_by_two : (one other : List ℕ) (p q : Bool) → (IsTrue p ↔ IsSpelling one other) → (IsTrue q ↔ IsSpelling other one) → IsFalse p → IsTrue (not q) ↔ AreApart one other
-apart_by_two one other p true is also fails = ((λ t. (let never : false ≡ true = t in cc)), λ apart. absurd (other_is_not_apart one other apart (also.0 refl)))
-apart_by_two one other p false is also fails = (
-  λ t. apart_names one other (λ spells. (let never : false ≡ true = sym fails ∙ is.1 spells in cc)) (λ spells. (let never : false ≡ true = also.1 spells in cc)),
-  λ apart. refl,
 )

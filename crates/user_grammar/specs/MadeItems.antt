@@ -3,9 +3,9 @@ use Rattle.std.specs.Prelude.{◌≡◌, ◌⊎◌, ℕ, List, [], ◌∷◌, �
 use Rattle.std.specs.List.{AllByRecursion}
 use Rattle.sy_base.specs.Tokens.{PlainToken}
 use Rattle.binding_terms.specs.declared.grammar.Cat.{Cat}
-use Rattle.rule_schemes.specs.Reading.{IsVariableWord}
+use Rattle.rule_schemes.specs.Reading.{IsVariableWord, IsCategoryWord}
 use Rattle.user_grammar.specs.File.{WrittenCategory}
-use Rattle.user_grammar.specs.Names.{names, IsCategoryWord, IsNoSpelling}
+use Rattle.user_grammar.specs.Names.{names, IsNoSpelling}
 use Rattle.user_grammar.specs.Production.{IsMark, IsVariable, AreBrackets, AreWords}
 use Rattle.user_grammar.specs.Grammar.{IsCategory}
 use Rattle.user_grammar.specs.declared.made_tokens.Meaning.{Meaning}

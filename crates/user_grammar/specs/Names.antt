@@ -1,5 +1,5 @@
 -- The names of a grammar and their spellings. To be held against the first point of 'Grammar' of docs/notation.md.
-use Rattle.std.specs.Prelude.{◌≡◌, ◌≢◌, ℕ, List, [], ◌∷◌, ◌++◌, map, flat_map, Option, None, Some, slice_get, MatchOption}
+use Rattle.std.specs.Prelude.{◌≡◌, ◌≢◌, ℕ, List, [], ◌∷◌, ◌++◌, map, flat_map, Option, None, Some}
 use Rattle.std.specs.List.{AllByRecursion}
 use Rattle.binding_terms.specs.Numbered.{AnyByRecursion}
 use Rattle.binding_terms.specs.declared.grammar.Cat.{Cat}
@@ -22,10 +22,6 @@ names cats = category_names cats ++ variable_names cats
 -- the text is one of these
 abbrev pub IsAmong : List (List ℕ) → List ℕ → Type 0
 IsAmong texts text = AnyByRecursion (λ one. one ≡ text) texts
-
--- the word is a spelling of the category with this number
-abbrev pub IsCategoryWord : List Cat → ℕ → List ℕ → Type 0
-IsCategoryWord cats c word = MatchOption (slice_get cats c) ⊥ (λ cat. IsSpelling cat.name word)
 
 -- the word is a spelling of none of the names
 abbrev pub IsNoSpelling : List (List ℕ) → List ℕ → Type 0

@@ -7,8 +7,8 @@ use Rattle.binding_terms.specs.declared.grammar.CatId.{CatId}
 use Rattle.binding_terms.specs.declared.grammar.Item.{Item}
 use Rattle.binding_terms.specs.declared.grammar.Item.TheVariants.{Word, Slot, Binder}
 use Rattle.binding_terms.specs.declared.grammar.Prod.{Prod}
-use Rattle.rule_schemes.specs.Reading.{IsVariableWord, MayBeTerminal}
-use Rattle.user_grammar.specs.Names.{IsAmong, names, IsCategoryWord, IsNoSpelling, AllDiffer}
+use Rattle.rule_schemes.specs.Reading.{IsVariableWord, MayBeTerminal, IsCategoryWord}
+use Rattle.user_grammar.specs.Names.{IsAmong, names, IsNoSpelling, AllDiffer}
 
 -- A token that may be a terminal of a production: of the words only the listed ones and numerals. Parentheses are none, not even in
 -- quotes. Of reserved words nothing is said, since none stands in a production outside quotes.

@@ -17,8 +17,7 @@ use crate::fault_names::{Names, all_variables};
 use crate::fault_tokens::first_at_token;
 use crate::name_index::NameIndex;
 use crate::name_lists::{category_index, listed_index};
-use crate::portions::copied;
-use binding_terms::NoMemory;
+use binding_terms::{NoMemory, Text};
 use outline_reader::Portion;
 use std::alloc::Global;
 use sy_base::Fault;
@@ -33,7 +32,7 @@ fn told(alloc: Global, found: Option<Found<'_>>) -> Result<Option<Fault>, NoMemo
     Ok(Some(Fault {
         line: one.token.line,
         code: one.code,
-        detail: copied(alloc, one.detail)?,
+        detail: Text::of(alloc, one.detail.as_bytes())?,
     }))
 }
 

@@ -1,10 +1,9 @@
 // The rule on context categories.
-ghost use Rattle.std.specs.Prelude.{◌≡◌, ◌↔◌, ◌⊎◌, ◌++◌, ◌∷◌, [], List, IsTrue, IfOk, map};
+ghost use Rattle.std.specs.Prelude.{◌↔◌, ◌⊎◌, List, IsTrue, IfOk, map};
 ghost use Rattle.std.specs.List.{AllByRecursion};
-ghost use Rattle.sy_base.specs.Tokens.{PlainToken};
 ghost use Rattle.proof_lexer.specs.View.{token_view};
 ghost use Rattle.outline_reader.specs.Plain.{PlainPortion, plain_form};
-ghost use Rattle.user_grammar.specs.Fault.{DeclaresVariable, ExactlyOne, HasNoBrackets, IsBinderWord, IsEmptyForm, IsEntryForm, IsWordOf, StandsForItself};
+ghost use Rattle.user_grammar.specs.Fault.{DeclaresVariable, HasNoBrackets, IsBinderWord, IsEmptyForm, IsEntryForm, IsWordOf, StandsForItself};
 ghost use Rattle.user_grammar.specs.Finding.{AreLists, AreNames, portions_of, written_view};
 ghost use Rattle.user_grammar.specs.FindingContexts.{One, OpensAt};
 ghost use Rattle.user_grammar.specs.FindingPlaces.{walk_view};
@@ -13,11 +12,11 @@ use crate::fault_form::is_opening;
 use crate::fault_lists::{Lists, Written};
 use crate::fault_names::{Names, is_binder_word, is_slot_word, may_stand, variable_of};
 use crate::fault_place::{Step, Walk, pass, start};
-use crate::spelling::is_spelling;
 use crate::tokens::is_word;
 use binding_terms::NoMemory;
 use outline_reader::Form;
 use proof_lexer::Token;
+use rule_schemes::is_spelling;
 use std::alloc::Global;
 
 /// Whether a token is a terminal, and no word of a category or variable.

@@ -27,11 +27,10 @@ use crate::fault_found::{Found, at_token, earlier};
 use crate::fault_lists::Lists;
 use crate::fault_names::variables;
 use crate::name_index::{NameIndex, add_name, has_name, no_names};
-use crate::names::is_same;
-use crate::spelling::is_spelling;
 use binding_terms::NoMemory;
 use outline_reader::{Form, Name, Portion};
 use proof_lexer::Token;
+use rule_schemes::{is_spelling, same_text};
 use std::alloc::Global;
 use sy_base::Code;
 
@@ -136,7 +135,7 @@ fn is_spelled_as(declaration: &Declaration<'_>, word: &[u8]) -> bool
     ensures { IsTrue result ↔ IsSpelledAs (declaration_view declaration.now) word.now }
 {
     match declaration.means {
-        Means::Terminal => is_same(word, declaration.token.text.as_bytes()),
+        Means::Terminal => same_text(word, declaration.token.text.as_bytes()),
         Means::Category => is_spelling(declaration.token.text.as_bytes(), word),
         Means::Variable => is_spelling(declaration.token.text.as_bytes(), word),
     }

@@ -1,5 +1,5 @@
 // Productions without an item, and productions that are one slot alone.
-ghost use Rattle.std.specs.Prelude.{◌≡◌, ◌↔◌, ◌∷◌, [], List, IsTrue, map};
+ghost use Rattle.std.specs.Prelude.{◌≡◌, ◌↔◌, ◌∷◌, [], IsTrue, map};
 ghost use Rattle.binding_terms.specs.Numbered.{AnyByRecursion};
 ghost use Rattle.sy_base.specs.declared.fault.Code.TheVariants.{EmptyProduction};
 ghost use Rattle.proof_lexer.specs.View.{token_view};

@@ -1,8 +1,8 @@
 // A fault that was found, and the earlier of two.
-ghost use Rattle.std.specs.Prelude.{◌≡◌, ◌↔◌, ◌∷◌, [], IsTrue, MatchOption, Some};
+ghost use Rattle.std.specs.Prelude.{◌≡◌, ◌↔◌, IsTrue, Some};
 ghost use Rattle.proof_lexer.specs.View.{token_view};
 ghost use Rattle.user_grammar.specs.Fault.{IsToldFirst, rank};
-ghost use Rattle.user_grammar.specs.Finding.{IsBefore, IsEarlierOf, IsFoundAt, IsOneOf};
+ghost use Rattle.user_grammar.specs.Finding.{IsEarlierOf, IsFoundAt, IsOneOf};
 
 use proof_lexer::Token;
 use sy_base::Code;

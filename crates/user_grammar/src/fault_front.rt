@@ -18,10 +18,10 @@ use crate::fault_names::Names;
 use crate::fault_place::{Walk, is_outside, pass, start};
 use crate::name_index::{NameIndex, has_name};
 use crate::name_lists::assumed_index;
-use crate::names::is_same;
 use binding_terms::NoMemory;
 use outline_reader::Form;
 use proof_lexer::Token;
+use rule_schemes::same_text;
 use std::alloc::Global;
 use sy_base::Code;
 
@@ -29,7 +29,7 @@ use sy_base::Code;
 fn is_namesake(written: &Written<'_>, other: &Written<'_>) -> bool
     ensures { IsTrue result ↔ ((written_view other.now).name.text ≡ (written_view written.now).name.text) }
 {
-    is_same(other.name.text.as_bytes(), written.name.text.as_bytes())
+    same_text(other.name.text.as_bytes(), written.name.text.as_bytes())
 }
 
 /// Whether a token with so many before it may be a slot of the category in a production of the other.

@@ -13,11 +13,11 @@ ghost use Rattle.user_grammar.specs.Finding.{AreLists, AreNames, all_forms, port
 
 use crate::fault_lists::{Lists, Written};
 use crate::name_index::has_name;
-use crate::spelling::is_spelling;
 use crate::tokens::{is_parenthesis, is_word, may_be_terminal};
 use binding_terms::NoMemory;
 use outline_reader::{Form, Name};
 use proof_lexer::{Kind, Token, is_numeral};
+use rule_schemes::is_spelling;
 use std::alloc::Global;
 
 /// The lists of a file, and the variables of its categories.

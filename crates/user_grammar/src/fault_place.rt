@@ -3,7 +3,7 @@ ghost use Rattle.std.specs.Prelude.{◌≡◌, ◌↔◌, ◌++◌, ◌∷◌, [
 ghost use Rattle.sy_base.specs.Tokens.{PlainToken};
 ghost use Rattle.proof_lexer.specs.View.{token_view};
 ghost use Rattle.outline_reader.specs.Plain.{plain_form};
-ghost use Rattle.user_grammar.specs.Fault.{Follows, IsBinderWord, IsOutside, IsPlaceBehind, outside};
+ghost use Rattle.user_grammar.specs.Fault.{Follows, IsOutside, IsPlaceBehind, outside};
 ghost use Rattle.user_grammar.specs.Finding.{AreLists, AreNames, portions_of};
 ghost use Rattle.user_grammar.specs.Indexed.{names_in};
 ghost use Rattle.user_grammar.specs.FindingPlaces.{AreBinders, walk_view};

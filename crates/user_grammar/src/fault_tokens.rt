@@ -1,5 +1,5 @@
 // Faults at the tokens of a production, by their places.
-ghost use Rattle.std.specs.Prelude.{◌≡◌, ◌≢◌, ◌↔◌, ◌⊎◌, ◌++◌, ◌∷◌, [], List, IsTrue, IfOk, length, map, reverse};
+ghost use Rattle.std.specs.Prelude.{◌≡◌, ◌≢◌, ◌↔◌, ◌⊎◌, List, IsTrue, IfOk, map, reverse};
 ghost use Rattle.std.specs.List.{AllByRecursion};
 ghost use Rattle.sy_base.specs.Tokens.{PlainToken};
 ghost use Rattle.proof_lexer.specs.View.{token_view};
@@ -10,7 +10,7 @@ ghost use Rattle.user_grammar.specs.Production.{IsMark};
 ghost use Rattle.user_grammar.specs.Fault.{IsBinderWord, IsOutside, Place};
 ghost use Rattle.user_grammar.specs.Finding.{AreNames, IsLeast, OfSome, portions_of, written_view};
 ghost use Rattle.user_grammar.specs.Indexed.{names_in};
-ghost use Rattle.user_grammar.specs.FindingPlaces.{AmongFirst, AreBinders, AtPlace, IsWrongAt, TokensOf, walk_view};
+ghost use Rattle.user_grammar.specs.FindingPlaces.{AreBinders, AtPlace, IsWrongAt, TokensOf, walk_view};
 
 use crate::fault_form::{is_closing, is_comma, is_opening};
 use crate::fault_found::{Found, at_token, earlier};

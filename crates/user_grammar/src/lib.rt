@@ -22,12 +22,12 @@ mod name_lists;
 mod names;
 mod phase;
 mod portions;
-mod spelling;
 mod tokens;
 mod worked;
 
 pub use laws::{
     faultless_files_have_a_signature, faulty_files_have_no_signature, signatures_are_unique,
 };
+pub use names::category_of;
 pub use phase::grammar;
 pub use worked::lambda_stands_for_its_signature;

@@ -12,8 +12,7 @@ ghost use Rattle.user_grammar.specs.Production.{AreBrackets, AreItems, AreNumber
 
 use crate::made_tokens::{Meaning, Spot, is_mark, meaning_of};
 use crate::name_index::{NameIndex, indexed, place_of};
-use crate::portions::copied;
-use binding_terms::{Cat, CatId, Item, NoMemory, Prod};
+use binding_terms::{Cat, CatId, Item, NoMemory, Prod, Text};
 use outline_reader::Form;
 use proof_lexer::{Kind, Token};
 use sqlite_items::Items;
@@ -163,7 +162,7 @@ fn terminal(alloc: Global, token: &Token<'_>) -> Result<Item, NoMemory>
     ensures { IfOk result (λ item. item ≡ Item.Word token.now.text.now (kind_number token.now.kind == 4)) }
 {
     Ok(Item::Word {
-        text: copied(alloc, token.text)?,
+        text: Text::of(alloc, token.text.as_bytes())?,
         quoted: token.kind == Kind::Quoted,
     })
 }

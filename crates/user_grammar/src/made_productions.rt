@@ -1,5 +1,5 @@
 // The categories and productions of a grammar, with variables and contexts.
-ghost use Rattle.std.specs.Prelude.{◌≡◌, ◌↔◌, ◌<◌, ◌^◌, ◌++◌, ◌∷◌, [], ℕ, List, Option, IfOk, IsTrue, OnOk, length, map, suc, option_map};
+ghost use Rattle.std.specs.Prelude.{◌≡◌, ◌<◌, ◌^◌, ◌++◌, ◌∷◌, ℕ, List, Option, IfOk, OnOk, length, map, option_map};
 ghost use Rattle.std.specs.List.{AllZip};
 ghost use Rattle.binding_terms.specs.declared.grammar.Cat.{Cat};
 ghost use Rattle.binding_terms.specs.declared.grammar.Prod.{Prod};
@@ -12,12 +12,11 @@ ghost use Rattle.user_grammar.specs.Grammar.{AreForms, AreProductions};
 ghost use Rattle.user_grammar.specs.Indexed.{names_in};
 ghost use Rattle.user_grammar.specs.Made.{plains};
 ghost use Rattle.user_grammar.specs.MadeItems.{IsFirstVariable, IsMadeCategory};
-ghost use Rattle.user_grammar.specs.Names.{AllApart, IsAmong, category_names, names};
+ghost use Rattle.user_grammar.specs.Names.{AllApart, category_names, names};
 
 use crate::made_forms::production;
 use crate::made_tokens::{is_variable, lone_variable};
 use crate::name_index::{NameIndex, has_name};
-use crate::portions::copied;
 use binding_terms::{Cat, CatId, NoMemory, Prod, Text};
 use outline_reader::{Form, Name, Portion};
 use proof_lexer::Token;
@@ -98,7 +97,7 @@ fn variable(
 {
     for form in forms {
         if let Some(token) = lone_variable(names, listed, form) {
-            return Ok(Some(copied(alloc, token.text)?));
+            return Ok(Some(Text::of(alloc, token.text.as_bytes())?));
         }
     }
     Ok(None)
@@ -117,7 +116,7 @@ fn made_category(
         (record { name = token_view name.now; mark = mark; forms = map plain_form (map (λ form. form.now) forms.now) }) cat) }
 {
     Ok(Cat {
-        name: copied(alloc, name.text)?,
+        name: Text::of(alloc, name.text.as_bytes())?,
         var: variable(alloc, names, listed, forms)?,
         context: has_name(assumed, name.text.as_bytes()),
     })

@@ -1,18 +1,18 @@
 // What the tokens of a production are, where categories have variables.
-ghost use Rattle.std.specs.Prelude.{◌≡◌, ◌≢◌, ◌↔◌, ◌<◌, ◌^◌, ◌⊎◌, ◌∷◌, [], IsTrue, length, map, MatchOption};
-ghost use Rattle.proof_lexer.specs.View.{kind_number, token_view};
+ghost use Rattle.std.specs.Prelude.{◌≡◌, ◌↔◌, ◌<◌, ◌^◌, ◌∷◌, [], IsTrue, length, map, MatchOption};
+ghost use Rattle.proof_lexer.specs.View.{token_view};
 ghost use Rattle.rule_schemes.specs.Reading.{IsSpelling};
 ghost use Rattle.outline_reader.specs.Plain.{plain_form};
 ghost use Rattle.user_grammar.specs.Indexed.{names_in};
 ghost use Rattle.user_grammar.specs.MadeItems.{IsBinderSpelling, Means, WordMeans};
-ghost use Rattle.user_grammar.specs.Names.{IsCategoryWord, IsNoSpelling, category_names, names, variable_names};
+ghost use Rattle.user_grammar.specs.Names.{IsNoSpelling, names, variable_names};
 ghost use Rattle.user_grammar.specs.Production.{IsMark, IsVariable};
 
 use crate::name_index::{NameIndex, has_name};
 use crate::names::category_of;
-use crate::spelling::is_spelling;
 use binding_terms::{Cat, CatId};
 use proof_lexer::{Kind, Token, is_numeral};
+use rule_schemes::is_spelling;
 
 /// What a token stands for outside brackets.
 #[derive(Clone, Copy, Debug, PartialEq, Eq)]

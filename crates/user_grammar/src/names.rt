@@ -1,9 +1,10 @@
 // The names of a grammar.
-ghost use Rattle.std.specs.Prelude.{◌≡◌, ◌↔◌, ◌<◌, ◌^◌, IsTrue, length, MatchOption};
-ghost use Rattle.user_grammar.specs.Names.{category_names, IsCategoryWord, IsNoSpelling};
+ghost use Rattle.std.specs.Prelude.{◌<◌, ◌^◌, length, MatchOption};
+ghost use Rattle.rule_schemes.specs.Reading.{IsCategoryWord};
+ghost use Rattle.user_grammar.specs.Names.{category_names, IsNoSpelling};
 
-use crate::spelling::is_spelling;
 use binding_terms::{Cat, CatId};
+use rule_schemes::is_spelling;
 
 /// A category of which the word is a spelling, or none where it is a spelling of none.
 pub fn category_of(cats: &[Cat], word: &[u8]) -> Option<CatId>
@@ -17,10 +18,4 @@ pub fn category_of(cats: &[Cat], word: &[u8]) -> Option<CatId>
         }
     }
     None
-}
-
-pub fn is_same(text: &[u8], other: &[u8]) -> bool
-    ensures { IsTrue result ↔ (text.now ≡ other.now) }
-{
-    text == other
 }

@@ -5,7 +5,7 @@ ghost use Rattle.outline_reader.specs.Views.{portion_view};
 ghost use Rattle.user_grammar.specs.File.{listed, listed_in};
 ghost use Rattle.user_grammar.specs.Made.{plains};
 
-use binding_terms::{NoMemory, Text};
+use binding_terms::NoMemory;
 use outline_reader::Portion;
 use proof_lexer::Token;
 use std::alloc::Global;
@@ -39,13 +39,4 @@ pub fn listed<'a>(alloc: Global, portions: &[Portion<'a>]) -> Result<Vec<&'a [u8
         add_listed(portion, &mut texts)?;
     }
     Ok(texts)
-}
-
-/// The same text again.
-pub fn copied(alloc: Global, text: &str) -> Result<Text, NoMemory>
-    ensures { IfOk result (λ new. new ≡ text.now) }
-{
-    let mut new = Text::new(alloc);
-    new.push(text.as_bytes())?;
-    Ok(new)
 }

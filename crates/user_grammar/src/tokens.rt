@@ -4,8 +4,8 @@ ghost use Rattle.proof_lexer.specs.View.{kind_number};
 ghost use Rattle.rule_schemes.specs.Reading.{MayBeTerminal};
 ghost use Rattle.user_grammar.specs.Names.{IsAmong};
 
-use crate::names::is_same;
 use proof_lexer::{Kind, Token};
+use rule_schemes::same_text;
 
 fn is_bracket(text: &[u8]) -> bool
     ensures { IsTrue result ↔ ((text.now ≡ 91 ∷ []) ⊎ (text.now ≡ 93 ∷ [])) }
@@ -36,7 +36,7 @@ pub fn is_listed(listed: &[&[u8]], word: &[u8]) -> bool
     ensures { IsTrue result ↔ IsAmong (map (λ text. text.now) listed.now) word.now }
 {
     for text in listed {
-        if is_same(text, word) {
+        if same_text(text, word) {
             return true;
         }
     }

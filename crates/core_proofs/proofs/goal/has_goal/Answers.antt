@@ -1,7 +1,7 @@
 use Rattle.std.proofs.Common.{map, option_map, ap, ◌∙◌, sym}
 use Rattle.scheme_terms.specs.View.{substitution}
 use Rattle.pattern_unify.specs.Equations.{equation}
-use Rattle.core_proofs.proofs.GoalFitting.{none_has, decided, are_to_fit, nothing_bound}
+use Rattle.core_proofs.proofs.GoalFitting.{none_has, decided, are_to_fit}
 use Rattle.core_proofs.proofs.goal.has_goal.Goals as goal
 use Rattle.binding_terms.proofs.Lists.{is_some_mapped}
 
@@ -10,13 +10,8 @@ returns-in-None c =
     let none = sym c.in_ok-equations.ensures ∙ ap (option_map (λ es. map equation es.items)) c.in-None.is in
     (λ h. let no : ⊥ = cc in absurd no, λ is. absurd (none_has _ c.always_system.ensures.plain _ _ _ c.requires.provable c.requires.scope c.requires.form none is))
 
-pub fit_into-requires-clause-plain : goal.fit_into-requires-clause-plain
-fit_into-requires-clause-plain c =
-    let some = sym c.in_ok-equations.ensures ∙ ap (option_map (λ es. map equation es.items)) c.in-Some.is in
-    rw c.sig.ensures (nothing_bound _ c.always_system.ensures.plain _ _ _ c.requires.provable c.requires.scope c.requires.form _ some)
-
-pub fit_into-requires-clause-asked : goal.fit_into-requires-clause-asked
-fit_into-requires-clause-asked c =
+pub fit_into-requires : goal.fit_into-requires
+fit_into-requires c =
     let some = sym c.in_ok-equations.ensures ∙ ap (option_map (λ es. map equation es.items)) c.in-Some.is in
     rw c.sig.ensures (are_to_fit _ c.always_system.ensures.plain _ _ _ c.requires.provable c.requires.scope c.requires.form _ some)
 

@@ -8,6 +8,6 @@ pub loop-i-preserved : goal.loop-i-preserved
 loop-i-preserved c = λ m h. elim (cases_lt m c.loop-i.i) [
   | inl k ↦ c.loop-i.invariant m k
   | inr k ↦
-      let same : c.in_ok-name_at.field-0.0 ≡ m = omega (arith, c.in_ok-name_at.ensures, h, k) in
+      let same : c.in_ok-number.field-0 ≡ m = omega (arith, c.in_ok-number.ensures, h, k) in
       subst (IsOfInputs (statement c.args.of.now)) same (c.is_of_inputs.ensures.0 c.if-not-is_of_inputs.false)
 ]

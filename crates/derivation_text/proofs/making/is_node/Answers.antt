@@ -1,4 +1,4 @@
-use Rattle.std.proofs.Common.{◌∙◌, List, length, map, sym, ap, subst, refl, true≢false, None, option_map}
+use Rattle.std.proofs.Common.{◌∙◌, List, length, map, sym, ap, subst, true≢false, None, option_map}
 use Rattle.std.specs.Prelude.{IsTrue, ◌↔◌}
 use Rattle.std.proofs.lemmas.List.{length-map}
 use Rattle.scheme_terms.specs.View.{ground_entry, instance}
@@ -9,7 +9,7 @@ use Rattle.rule_schemes.specs.Derivation.{IsNodeOf}
 use Rattle.derivation_check.specs.Parts.{subtrees_of}
 use Rattle.rule_schemes.specs.View.{theory, judgment_scheme, judgment_value}
 use Rattle.rule_schemes.specs.View.{rule as plain_rule}
-use Rattle.derivation_text.proofs.RuleLemmas.{form_closed, arguments_fit, fit_over, final_is, are_strict, decided, other_length, value_closed, over_matching}
+use Rattle.derivation_text.proofs.RuleLemmas.{judgments_fit, fit_over, final_is, are_strict, decided, other_length, value_closed, over_matching}
 use Rattle.derivation_text.proofs.making.is_node.Goals as goal
 
 pub returns-then-premises-trees : goal.returns-then-premises-trees
@@ -21,18 +21,13 @@ returns-then-premises-trees c =
           (λ e. c.if-premises-trees.true (ap length c.as_slice-premises.ensures ∙ sym (length-map c.args.rule.now.premises judgment_scheme) ∙ e)) n),
     )
 
-pub add-requires-clause-entries : goal.add-requires-clause-entries
-add-requires-clause-entries c =
-    let r = plain_rule c.args.rule.now in
-    (form_closed (theory c.args.sys.now) c.requires.bare (rule_names r) r.conclusion c.requires.fits.forms.conclusion).1
-
-pub add-requires-clause-arguments : goal.add-requires-clause-arguments
-add-requires-clause-arguments c =
+pub add-requires : goal.add-requires
+add-requires c =
     let th = theory c.args.sys.now in
     let r = plain_rule c.args.rule.now in
     over_matching th r.conclusion (judgment_value c.args.judgment.now) c.in_ok-matcher.matcher r.metas
     (ap (λ (m : Matching). m.sig) c.in_ok-matcher.ensures ∙ c.sig.ensures) (ap (λ (m : Matching). m.metas) c.in_ok-matcher.ensures ∙ c.as_slice.ensures)
-    (arguments_fit th c.requires.bare (rule_names r) r.conclusion (judgment_value c.args.judgment.now) refl c.requires.fits.forms.conclusion c.requires.judged)
+    (judgments_fit th c.requires.bare (rule_names r) r.conclusion (judgment_value c.args.judgment.now) c.requires.fits.forms.conclusion c.requires.judged)
 
 pub add_premises-requires-clause-fit : goal.add_premises-requires-clause-fit
 add_premises-requires-clause-fit c =

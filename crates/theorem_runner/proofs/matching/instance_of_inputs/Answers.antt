@@ -1,11 +1,9 @@
-use Rattle.std.proofs.Common.{List, get_or, ◌≡◌, ◌<◌, ◌++◌, ◌∷◌, [], length, map, Some, slice_get, refl, ap, sym, subst, ◌∙◌, arith}
+use Rattle.std.proofs.Common.{get_or, ◌≡◌, ◌<◌, ◌++◌, ◌∷◌, [], length, map, Some, slice_get, refl, ap, sym, subst, ◌∙◌, arith}
 use Rattle.std.specs.Prelude.{option_map, vec_len}
-use Rattle.std.specs.List.{AllByRecursion}
 use Rattle.std.proofs.lemmas.List.{length-map}
 use Rattle.std.proofs.lemmas.Result.{IfOk-weaker}
 use Rattle.std.proofs.lemmas.Option.{slice_get_read, slice_get-map}
 use Rattle.scheme_terms.specs.View.{names, context_value, instance}
-use Rattle.scheme_terms.specs.declared.scheme.MetaDecl.{MetaDecl}
 use Rattle.rule_schemes.specs.View.{theory, statement, statement_input, judgment_scheme, judgment_value}
 use Rattle.rule_schemes.specs.Derivation.{judgment, Derives}
 use Rattle.rule_schemes.specs.Statement.{given, syntax_input, derived, term}
@@ -14,14 +12,12 @@ use Rattle.binding_terms.specs.Numbered.{AllNumbered, AnyByRecursion}
 use Rattle.pattern_unify.proofs.PlainSchemes.{all_at}
 use Rattle.pattern_unify.proofs.Places.{within as place_within}
 use Rattle.rule_schemes.specs.Rules.{JudgmentValue}
-use Rattle.scheme_match.specs.Matching.{Matching, judgments, StrictInPair, IsOnlyMatch, ArgumentsFit}
+use Rattle.scheme_match.specs.Matching.{Matching, judgments, StrictInPair, IsOnlyMatch, JudgmentsFit}
 use Rattle.core_proofs.specs.Plain.{IsPlainForm}
-use Rattle.core_proofs.proofs.Keeping.{plain_scope}
-use Rattle.core_proofs.proofs.RuleFitting.{bare}
 use Rattle.theorem_runner.specs.Instances.{IsDerived, IsOnlyInstance}
 use Rattle.theorem_runner.proofs.Pairs.{input_pairs}
 use Rattle.theorem_runner.specs.View.{input_tree, input_trees}
-use Rattle.theorem_runner.proofs.Pairing.{uncounted, unpaired, pairs_stop, pairs_more, pairs_end, given_at, arguments_fit, are_strict, only_instance}
+use Rattle.theorem_runner.proofs.Pairing.{uncounted, unpaired, pairs_stop, pairs_more, pairs_end, given_at, judgments_fit, are_strict, only_instance}
 use Rattle.theorem_runner.proofs.Restricting.{forms_plain}
 use Rattle.theorem_runner.proofs.matching.instance_of_inputs.Goals as goal
 
@@ -33,25 +29,8 @@ returns-then-len c =
     ∙ sym (c.len.ensures ∙ (let e : vec_len c.args.inputs.now.items ≡ length c.args.inputs.now.items.items = omega (arith, c.args.inputs.now.items.ok.0) in e)) in
     uncounted _ c.always_system.ensures.plain _ c.requires.provable _ c.requires.scope _ _ (λ same. c.if-len.true (sym (sym inputs ∙ same ∙ items)))
 
-pub new-requires-clause-metas : goal.new-requires-clause-metas
-new-requires-clause-metas c =
-    subst (λ (ms : List MetaDecl). AllByRecursion (λ m. m.params ≡ []) ms) (sym c.as_slice.ensures)
-    (plain_scope _ c.always_system.ensures.plain _ c.requires.provable _ c.requires.scope).metas
-
-pub add-requires-clause-entries : goal.add-requires-clause-entries
-add-requires-clause-entries c =
-    let form_here : slice_get c.args.of.now.inputs c.loop-i.i ≡ Some c.index-as_slice-i.result =
-    slice_get_read c.args.of.now.inputs (length c.args.of.now.inputs) c.loop-i.i c.index-as_slice-i.result refl
-    (omega (arith, c.loop-i-test.true, c.len-i-end.ensures, c.len.ensures, c.if-len.false, c.len-2.ensures))
-    (subst (λ xs. c.index-as_slice-i.result ≡ get_or xs c.loop-i.i c.index-as_slice-i.result) c.as_slice-in-loop-i.ensures c.index-as_slice-i.is) in
-    let given_here : slice_get (map statement_input c.args.of.now.inputs) c.loop-i.i ≡ Some (given (judgment_scheme c.in-Given.form)) =
-    slice_get-map statement_input c.args.of.now.inputs c.loop-i.i ∙ ap (option_map statement_input) (form_here ∙ ap Some c.in-Given.is) in
-    let plain = given_at (IsPlainForm (theory c.args.system.now) (names c.args.scope.now)) (map statement_input c.args.of.now.inputs) c.loop-i.i (judgment_scheme c.in-Given.form)
-    (forms_plain (theory c.args.system.now) c.always_system.ensures.plain (statement c.args.of.now) c.requires.provable (names c.args.scope.now) c.requires.scope) given_here in
-    (bare _ _ _ plain).entries
-
-pub add-requires-clause-arguments : goal.add-requires-clause-arguments
-add-requires-clause-arguments c =
+pub add-requires : goal.add-requires
+add-requires c =
     let form_here : slice_get c.args.of.now.inputs c.loop-i.i ≡ Some c.index-as_slice-i.result =
     slice_get_read c.args.of.now.inputs (length c.args.of.now.inputs) c.loop-i.i c.index-as_slice-i.result refl
     (omega (arith, c.loop-i-test.true, c.len-i-end.ensures, c.len.ensures, c.if-len.false, c.len-2.ensures))
@@ -67,14 +46,14 @@ add-requires-clause-arguments c =
     slice_get-map input_tree c.args.inputs.now.items.items c.loop-i.i ∙ ap (option_map input_tree) (item_here ∙ ap Some c.in-Tree.is) in
     let derives : Derives (theory c.args.system.now) c.in-Tree.tree =
     all_at (IsDerived (theory c.args.system.now)) (map input_tree c.args.inputs.now.items.items) c.loop-i.i (derived c.in-Tree.tree) c.requires.derived tree_here in
-    let fit = arguments_fit (theory c.args.system.now) c.always_system.ensures.plain (statement c.args.of.now) c.requires.provable (names c.args.scope.now) c.requires.scope
+    let fit = judgments_fit (theory c.args.system.now) c.always_system.ensures.plain (statement c.args.of.now) c.requires.provable (names c.args.scope.now) c.requires.scope
     (judgment_scheme c.in-Given.form) c.in-Tree.tree plain derives in
     subst (λ sig. (judgment_scheme c.in-Given.form).judgment ≡ (judgment_value c.conclusion.result.now).judgment →
-    ArgumentsFit sig c.loop-i.matcher.metas (judgment_scheme c.in-Given.form) (judgment_value c.conclusion.result.now)) (sym c.loop-i.invariant.sig)
+    JudgmentsFit sig c.loop-i.matcher.metas (judgment_scheme c.in-Given.form) (judgment_value c.conclusion.result.now)) (sym c.loop-i.invariant.sig)
     (subst (λ ms. (judgment_scheme c.in-Given.form).judgment ≡ (judgment_value c.conclusion.result.now).judgment →
-    ArgumentsFit c.args.system.now.sig ms (judgment_scheme c.in-Given.form) (judgment_value c.conclusion.result.now)) (sym c.loop-i.invariant.metas)
+    JudgmentsFit c.args.system.now.sig ms (judgment_scheme c.in-Given.form) (judgment_value c.conclusion.result.now)) (sym c.loop-i.invariant.metas)
     (subst (λ (u : JudgmentValue). (judgment_scheme c.in-Given.form).judgment ≡ u.judgment →
-    ArgumentsFit c.args.system.now.sig c.args.scope.now.metas (judgment_scheme c.in-Given.form) u) (sym c.conclusion.ensures) fit))
+    JudgmentsFit c.args.system.now.sig c.args.scope.now.metas (judgment_scheme c.in-Given.form) u) (sym c.conclusion.ensures) fit))
 
 pub returns-in-Syntax-index : goal.returns-in-Syntax-index
 returns-in-Syntax-index c =

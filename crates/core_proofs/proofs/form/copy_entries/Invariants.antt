@@ -1,6 +1,0 @@
-use Rattle.std.proofs.Common.{◌≡◌, map, take}
-use Rattle.scheme_terms.specs.View.{scheme_entry}
-use Rattle.core_proofs.proofs.form.copy_entries.Given as goal
-
-abbrev pub invariant-loop-entry : goal.invariant-loop-entry
-invariant-loop-entry l = map scheme_entry l.all ≡ map scheme_entry (take l.entry-index l.entries)

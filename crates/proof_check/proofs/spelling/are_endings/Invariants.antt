@@ -1,7 +1,0 @@
-use Rattle.std.proofs.Common.{◌↔◌, drop}
-use Rattle.std.specs.List.{AllByRecursion}
-use Rattle.rule_schemes.specs.Reading.{IsEnding}
-use Rattle.proof_check.proofs.spelling.are_endings.Given as goal
-
-abbrev pub invariant-loop-byte : goal.invariant-loop-byte
-invariant-loop-byte l = AllByRecursion IsEnding (drop l.byte-index l.bytes) ↔ AllByRecursion IsEnding l.bytes
