@@ -1,16 +1,41 @@
 // The places at which sums are read, and their order.
 ghost use Rattle.std.specs.Prelude.{◌≡◌};
 
-use crate::readings::{grammar, leaf, sum, to_the_left, to_the_right, tokens};
-use binding_terms::{CatId, NoMemory, Sig};
-use proof_lexer::Token;
-use scheme_terms::Scheme;
+use crate::sources::{LONGEST, signature};
+use binding_terms::{CatId, NoMemory, ProdId, Sig};
+use proof_lexer::{Token, lex};
+use scheme_terms::{SArg, Scheme};
 use sqlite_items::Items;
 use std::alloc::{AllocError, Global};
 use std::test::Fail;
 use term_reader::{
     Chart, Piece, Place, Sheet, are_before, are_same, is_before, place_of, places_of,
 };
+
+/// The grammar of sums, whose alternatives are the sum (3) and `a` (4).
+const SUMS: &str = "terminals a\nsyntax\ne ::= e + e | a\n";
+
+fn leaf(alloc: Global) -> Scheme {
+    Scheme::Con(ProdId(1), Items::new(alloc))
+}
+
+fn sum(alloc: Global, left: Scheme, right: Scheme) -> Result<Scheme, NoMemory> {
+    let mut parts = Items::new(alloc);
+    for body in [left, right] {
+        parts.push(SArg { binds: 0, body })?;
+    }
+    Ok(Scheme::Con(ProdId(0), parts))
+}
+
+/// `a + (a + a)`, or `(a + a) + a`.
+fn sum_of_three(alloc: Global, to_the_right: bool) -> Result<Scheme, NoMemory> {
+    let inner = sum(alloc, leaf(alloc), leaf(alloc))?;
+    if to_the_right {
+        sum(alloc, leaf(alloc), inner)
+    } else {
+        sum(alloc, inner, leaf(alloc))
+    }
+}
 
 #[cycle(shown)]
 fn add_places(alloc: Global, out: &mut String, places: &[Place]) -> Result<(), AllocError> {
@@ -35,57 +60,6 @@ fn add_place(alloc: Global, out: &mut String, place: &Place) -> Result<(), Alloc
     add_places(alloc, out, place.inner.as_slice())
 }
 
-fn place_shown(alloc: Global, found: &Option<Place>) -> Result<String, AllocError> {
-    let mut out = String::new(alloc);
-    match found {
-        Some(place) => add_place(alloc, &mut out, place)?,
-        None => out.push_str("none")?,
-    }
-    Ok(out)
-}
-
-fn places_shown(alloc: Global, found: &Option<Items<Place>>) -> Result<String, AllocError> {
-    let mut out = String::new(alloc);
-    match found {
-        Some(places) => add_places(alloc, &mut out, places.as_slice())?,
-        None => out.push_str("none")?,
-    }
-    Ok(out)
-}
-
-/// The grammar of sums, whose alternatives are the sum (3) and `a` (4).
-fn sums(alloc: Global) -> Result<Option<Sig>, NoMemory> {
-    grammar(alloc, &["_", "+", "_"], &["a"])
-}
-
-/// The first place at which the tokens read as the term.
-fn place_in<'a>(
-    alloc: Global,
-    sig: &'a Sig,
-    tokens: &'a [Token<'a>],
-    term: &Scheme,
-) -> Result<Option<Place>, NoMemory> {
-    let chart = Chart::new(alloc, sig, &[], &[], tokens)?;
-    let sheet = Sheet {
-        sig,
-        metas: &[],
-        words: &[],
-        tokens,
-        chart: &chart,
-        contexts: None,
-    };
-    place_of(alloc, &sheet, &[], CatId(0), 0, tokens.len(), term)
-}
-
-/// The first place at which the words read as that sum.
-fn place(alloc: Global, words: &[&str], term: &Scheme) -> Result<Option<Place>, NoMemory> {
-    let form = tokens(alloc, words)?;
-    match sums(alloc)? {
-        Some(sig) => place_in(alloc, &sig, form.as_slice(), term),
-        None => Ok(None),
-    }
-}
-
 /// A slot for a sum, over these tokens.
 fn piece<'a>(from: usize, to: usize) -> Piece<'a>
     ensures { (result.from ≡ from) × (result.to ≡ to) }
@@ -98,17 +72,15 @@ fn piece<'a>(from: usize, to: usize) -> Piece<'a>
     }
 }
 
-/// The first places at which the sides of a sum read as the terms, where its sign is the token with this number.
-fn sides_in<'a>(
+/// The first place at which the tokens read as the term, and the first places at which the sides of their second `+` read as the first and the
+/// last of these terms.
+fn places_in<'a>(
     alloc: Global,
     sig: &'a Sig,
     tokens: &'a [Token<'a>],
-    sign: usize,
-    terms: &[Scheme],
-) -> Result<Option<Items<Place>>, NoMemory> {
-    if tokens.len() <= sign {
-        return Ok(None);
-    }
+    term: &Scheme,
+    sides: &[Scheme],
+) -> Result<(Option<Place>, Option<Items<Place>>), NoMemory> {
     let chart = Chart::new(alloc, sig, &[], &[], tokens)?;
     let sheet = Sheet {
         sig,
@@ -118,92 +90,81 @@ fn sides_in<'a>(
         chart: &chart,
         contexts: None,
     };
-    let slots = [piece(0, sign), piece(sign + 1, tokens.len())];
-    places_of(alloc, &sheet, &[], &[], &slots, terms)
+    let whole = place_of(alloc, &sheet, &[], CatId(0), 0, tokens.len(), term)?;
+    if tokens.len() <= 3 {
+        return Ok((whole, None));
+    }
+    let slots = [piece(0, 3), piece(4, tokens.len())];
+    let found = places_of(alloc, &sheet, &[], &[], &slots, sides)?;
+    Ok((whole, found))
 }
 
-/// The first places at which the sides of `a + a + a` read as the terms, where its sign is the token with this number.
-fn sides(alloc: Global, sign: usize, terms: &[Scheme]) -> Result<Option<Items<Place>>, NoMemory> {
-    let form = tokens(alloc, &THREE)?;
-    match sums(alloc)? {
-        Some(sig) => sides_in(alloc, &sig, form.as_slice(), sign, terms),
-        None => Ok(None),
+/// The same of a form.
+fn places(
+    alloc: Global,
+    form: &str,
+    to_the_right: bool,
+) -> Result<(Option<Place>, Option<Items<Place>>), Fail> {
+    let term = sum_of_three(alloc, to_the_right)?;
+    let mut sides = Vec::new(alloc);
+    sides.push(sum(alloc, leaf(alloc), leaf(alloc))?)?;
+    sides.push(leaf(alloc))?;
+    let Some(sig) = signature(alloc, SUMS) else {
+        return Err(Fail::from("no signature"));
+    };
+    if LONGEST < form.len() {
+        return Err(Fail::from("a long form"));
+    }
+    match lex(alloc, form.as_bytes()) {
+        Ok(tokens) => Ok(places_in(alloc, &sig, tokens.as_slice(), &term, sides.as_slice())?),
+        Err(_) => Err(Fail::from("no tokens")),
     }
 }
 
-/// The terms `a` and `a + a`, or in the other order.
-fn one_and_two(alloc: Global, first_one: bool) -> Result<Vec<Scheme>, NoMemory> {
-    let two = sum(alloc, leaf(alloc), leaf(alloc))?;
-    let mut terms = Vec::new(alloc);
-    if first_one {
-        terms.push(leaf(alloc))?;
-        terms.push(two)?;
-    } else {
-        terms.push(two)?;
-        terms.push(leaf(alloc))?;
+/// The whole form's place, as a text.
+fn told(alloc: Global, form: &str, to_the_right: bool) -> Result<String, Fail> {
+    let mut out = String::new(alloc);
+    let (whole, _) = places(alloc, form, to_the_right)?;
+    match whole {
+        Some(place) => add_place(alloc, &mut out, &place)?,
+        None => out.push_str("none")?,
     }
-    Ok(terms)
+    Ok(out)
 }
-
-const THREE: [&str; 5] = ["a", "+", "a", "+", "a"];
-
-const GROUPED: [&str; 7] = ["(", "a", "+", "a", ")", "+", "a"];
 
 #[test]
 fn sums_stand_at_their_places(rt: HostRuntime) -> Result<(), Fail> {
-    let alloc = rt.alloc();
-    let right = to_the_right(alloc)?;
-    let left = to_the_left(alloc)?;
-    let first = place(alloc, &THREE, &right)?;
-    assert_eq!(rt;
-        place_shown(alloc, &first)?.as_str(),
-        "3.1.3(4)(3.1.1(4)(4))"
-    );
-    let second = place(alloc, &THREE, &left)?;
-    assert_eq!(rt;
-        place_shown(alloc, &second)?.as_str(),
-        "3.3.1(3.1.1(4)(4))(4)"
-    );
-    let grouped = place(alloc, &GROUPED, &left)?;
-    assert_eq!(rt;
-        place_shown(alloc, &grouped)?.as_str(),
-        "3.5.1(0(3.1.1(4)(4)))(4)"
-    );
-    let none = place(alloc, &GROUPED, &right)?;
-    assert_eq!(rt; place_shown(alloc, &none)?.as_str(), "none");
+    for (form, to_the_right, expected) in [
+        ("a + a + a", true, "3.1.3(4)(3.1.1(4)(4))"),
+        ("a + a + a", false, "3.3.1(3.1.1(4)(4))(4)"),
+        ("(a + a) + a", false, "3.5.1(0(3.1.1(4)(4)))(4)"),
+        ("(a + a) + a", true, "none"),
+    ] {
+        let answer = told(rt.alloc(), form, to_the_right)?;
+        assert_eq!(rt; answer.as_str(), expected, "of {form}");
+    }
     Ok(())
 }
 
 #[test]
 fn the_shorter_first_slot_stands_before(rt: HostRuntime) -> Result<(), Fail> {
     let alloc = rt.alloc();
-    let Some(first) = place(alloc, &THREE, &to_the_right(alloc)?)? else {
+    let (right, _) = places(alloc, "a + a + a", true)?;
+    let (left, split) = places(alloc, "a + a + a", false)?;
+    let Some(first) = right else {
         return Err(Fail::from("to the right"));
     };
-    let Some(second) = place(alloc, &THREE, &to_the_left(alloc)?)? else {
+    let Some(second) = left else {
         return Err(Fail::from("to the left"));
+    };
+    let Some(sides) = split else {
+        return Err(Fail::from("the sides"));
     };
     assert!(rt; is_before(&first, &second));
     assert!(rt; !is_before(&second, &first));
-    assert!(rt; !is_before(&first, &first));
-    Ok(())
-}
-
-#[test]
-fn sides_stand_at_their_places(rt: HostRuntime) -> Result<(), Fail> {
-    let alloc = rt.alloc();
-    let found = sides(alloc, 1, one_and_two(alloc, true)?.as_slice())?;
-    assert_eq!(rt; places_shown(alloc, &found)?.as_str(), "(4)(3.1.1(4)(4))");
-    let others = sides(alloc, 3, one_and_two(alloc, false)?.as_slice())?;
-    assert_eq!(rt; places_shown(alloc, &others)?.as_str(), "(3.1.1(4)(4))(4)");
-    let none = sides(alloc, 3, one_and_two(alloc, true)?.as_slice())?;
-    assert_eq!(rt; places_shown(alloc, &none)?.as_str(), "none");
-    let (Some(later), Some(earlier)) = (found, others) else {
-        return Err(Fail::from("the sides"));
-    };
-    assert!(rt; are_before(earlier.as_slice(), later.as_slice()));
-    assert!(rt; !are_before(later.as_slice(), earlier.as_slice()));
-    assert!(rt; are_same(later.as_slice(), later.as_slice()));
-    assert!(rt; !are_same(later.as_slice(), earlier.as_slice()));
+    assert!(rt; are_before(sides.as_slice(), first.inner.as_slice()));
+    assert!(rt; !are_before(first.inner.as_slice(), sides.as_slice()));
+    assert!(rt; are_same(second.inner.as_slice(), sides.as_slice()));
+    assert!(rt; !are_same(first.inner.as_slice(), sides.as_slice()));
     Ok(())
 }

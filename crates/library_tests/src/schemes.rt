@@ -23,12 +23,6 @@ const APPLIED: ProdId = ProdId(1);
 /// The metavariable `t`, with two parameters.
 const BODY: MetaId = MetaId(0);
 
-fn text(alloc: Global, written: &str) -> Result<Text, NoMemory> {
-    let mut text = Text::new(alloc);
-    text.push(written.as_bytes())?;
-    Ok(text)
-}
-
 /// `fn x => ..` around a scheme.
 fn function(alloc: Global, body: Scheme) -> Result<Scheme, NoMemory> {
     let mut parts = Items::new(alloc);
@@ -114,7 +108,7 @@ fn entry(alloc: Global) -> SEntry {
 /// The metavariable's declaration.
 fn declaration(alloc: Global) -> Result<MetaDecl, NoMemory> {
     Ok(MetaDecl {
-        name: text(alloc, "t")?,
+        name: Text::of(alloc, b"t")?,
         cat: CatId(0),
         params: Items::from_slice(alloc, &[CatId(0), CatId(0)])?,
     })
@@ -130,7 +124,7 @@ fn declarations(alloc: Global) -> Result<Items<MetaDecl>, NoMemory> {
 fn knowns(alloc: Global) -> Result<Items<KnownDecl>, NoMemory> {
     let mut knowns = Items::new(alloc);
     knowns.push(KnownDecl {
-        name: text(alloc, "x")?,
+        name: Text::of(alloc, b"x")?,
         entry: entry(alloc),
     })?;
     Ok(knowns)

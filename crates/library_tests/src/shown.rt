@@ -1,330 +1,143 @@
-// An outline as a text.
-use outline_reader::{
-    ArgText, Form, InputText, Just, Name, NamedForm, OutlineFault, Part, Portion, outline,
-};
-use proof_lexer::{Token, lex};
+// What a form reads as, as a text.
+use notation_parser::{Reading, Said, Written};
+use rule_schemes::JScheme;
+use scheme_terms::{KnownDecl, MetaDecl, Root, SArg, SCtx, SEntry, Scheme};
 use std::alloc::{AllocError, Global};
 
-fn add(out: &mut String, word: &str) -> Result<(), AllocError> {
-    out.push_str(" ")?;
-    out.push_str(word)
-}
-
-fn add_form(out: &mut String, form: Form<'_>) -> Result<(), AllocError> {
-    out.push_str(" [")?;
-    for token in form {
-        out.push_str(token.text)?;
-        out.push_str(" ")?;
-    }
-    out.push_str("]")
-}
-
-fn add_forms(out: &mut String, forms: &[Form<'_>]) -> Result<(), AllocError> {
-    for form in forms {
-        add_form(out, form)?;
-    }
-    Ok(())
-}
-
-fn add_names(out: &mut String, names: &[Name<'_>]) -> Result<(), AllocError> {
-    for name in names {
-        add(out, name.text)?;
-    }
-    Ok(())
-}
-
-fn add_assumed(out: &mut String, assumes: Option<Name<'_>>) -> Result<(), AllocError> {
-    match assumes {
-        Some(name) => {
-            add(out, "assumes")?;
-            add(out, name.text)
-        }
-        None => Ok(()),
-    }
-}
-
-fn add_named(out: &mut String, named: &NamedForm<'_>) -> Result<(), AllocError> {
-    add(out, named.name.text)?;
-    add_form(out, named.form)
-}
-
-fn add_head(
+fn add_number(
+    alloc: Global,
     out: &mut String,
-    premises: &[NamedForm<'_>],
-    name: Name<'_>,
-    conclusion: &NamedForm<'_>,
+    sign: &str,
+    number: usize,
 ) -> Result<(), AllocError> {
-    for premise in premises {
-        add_named(out, premise)?;
-    }
-    add(out, name.text)?;
-    add_named(out, conclusion)
+    let digits = format!(in alloc; "{sign}{number}")?;
+    out.push_str(digits.as_str())
 }
 
-fn add_arg(out: &mut String, arg: &ArgText<'_>) -> Result<(), AllocError> {
-    match arg {
-        ArgText::Name(name) => add(out, name.text),
-        ArgText::Form(form) => add_form(out, form),
-    }
-}
-
-fn add_args(out: &mut String, args: &[ArgText<'_>]) -> Result<(), AllocError> {
-    for arg in args {
-        add_arg(out, arg)?;
+#[cycle(shown)]
+fn add_parts(alloc: Global, out: &mut String, parts: &[SArg]) -> Result<(), AllocError> {
+    for part in parts {
+        add_number(alloc, out, "(", part.binds)?;
+        out.push_str(" ")?;
+        add_scheme(alloc, out, &part.body)?;
+        out.push_str(")")?;
     }
     Ok(())
 }
 
-fn add_input(out: &mut String, input: &InputText<'_>) -> Result<(), AllocError> {
-    match input {
-        InputText::Given(named) => {
-            add(out, "Given")?;
-            add_named(out, named)
-        }
-        InputText::Syntax(name) => {
-            add(out, "Syntax")?;
-            add(out, name.text)
-        }
-    }
-}
-
-fn add_inputs(out: &mut String, inputs: &[InputText<'_>]) -> Result<(), AllocError> {
-    for input in inputs {
-        add_input(out, input)?;
+#[cycle(shown)]
+fn add_schemes(alloc: Global, out: &mut String, schemes: &[Scheme]) -> Result<(), AllocError> {
+    for scheme in schemes {
+        out.push_str("[")?;
+        add_scheme(alloc, out, scheme)?;
+        out.push_str("]")?;
     }
     Ok(())
 }
 
-fn add_call(out: &mut String, word: &str, args: &[ArgText<'_>]) -> Result<(), AllocError> {
-    add(out, word)?;
-    add_args(out, args)
-}
-
-fn add_subject(out: &mut String, word: &str, subject: &ArgText<'_>) -> Result<(), AllocError> {
-    add(out, word)?;
-    add_arg(out, subject)
-}
-
-fn add_by(out: &mut String, word: &str, name: Name<'_>) -> Result<(), AllocError> {
-    add(out, word)?;
-    add(out, name.text)
-}
-
-fn add_just(out: &mut String, just: &Just<'_>) -> Result<(), AllocError> {
-    match just {
-        Just::Rule { name, on } => {
-            add(out, "Rule")?;
-            add_call(out, name.text, on)
+/// A scheme: `m` and a number is a metavariable with its arguments in brackets, `l` a local, `k` a known variable, and `c` a production
+/// with its parts, each behind the number of variables that it binds.
+#[cycle(shown)]
+fn add_scheme(alloc: Global, out: &mut String, scheme: &Scheme) -> Result<(), AllocError> {
+    match scheme {
+        Scheme::Meta(id, args) => {
+            add_number(alloc, out, "m", id.0 as usize)?;
+            add_schemes(alloc, out, args.as_slice())
         }
-        Just::Theorem { kind, name, on } => {
-            add_by(out, "Theorem", kind)?;
-            add_call(out, name.text, on)
-        }
-        Just::Hypothesis { on } => add_call(out, "Hypothesis", on),
-        Just::Cases(subject) => add_subject(out, "Cases", subject),
-        Just::Induction(subject) => add_subject(out, "Induction", subject),
-        Just::Contradiction(subject) => add_subject(out, "Contradiction", subject),
-        Just::Weakening(name) => add_by(out, "Weakening", name),
-        Just::Exchange(name) => add_by(out, "Exchange", name),
-        Just::Substitution(first, second) => {
-            add_by(out, "Substitution", first)?;
-            add(out, second.text)
-        }
-        Just::Unproved => add(out, "Unproved"),
-        Just::Names(names) => {
-            add(out, "Names")?;
-            add_names(out, names)
+        Scheme::Known(number) => add_number(alloc, out, "k", *number as usize),
+        Scheme::Local(number) => add_number(alloc, out, "l", *number),
+        Scheme::Con(id, parts) => {
+            add_number(alloc, out, "c", id.0 as usize)?;
+            add_parts(alloc, out, parts.as_slice())
         }
     }
 }
 
-/// What stands outside a proof.
-fn add_declared(out: &mut String, portion: &Portion<'_>) -> Result<(), AllocError> {
-    match portion {
-        Portion::Terminals { first, items } => {
-            add_by(out, "Terminals", first)?;
-            add_form(out, items)
-        }
-        Portion::Syntax { first } => add_by(out, "Syntax", first),
-        Portion::Category {
-            name,
-            productions,
-            ..
-        } => {
-            add_by(out, "Category", name)?;
-            add_forms(out, productions)
-        }
-        Portion::Judgment {
-            first,
-            name,
-            form,
-            assumes,
-        } => {
-            add_by(out, "Judgment", first)?;
-            add(out, name.text)?;
-            add_form(out, form)?;
-            add_assumed(out, *assumes)
-        }
-        Portion::Rule {
-            premises,
-            name,
-            conclusion,
-        } => {
-            add(out, "Rule")?;
-            add_forms(out, premises)?;
-            add(out, name.text)?;
-            add_form(out, conclusion)
-        }
-        _ => add_theorem(out, portion),
-    }
+fn add_entry(alloc: Global, out: &mut String, entry: &SEntry) -> Result<(), AllocError> {
+    add_number(alloc, out, ", p", entry.prod.0 as usize)?;
+    add_schemes(alloc, out, entry.args.as_slice())
 }
 
-fn add_targets(out: &mut String, targets: &[Name<'_>]) -> Result<(), AllocError> {
-    for target in targets {
-        add(out, "on")?;
-        add(out, target.text)?;
+fn add_context(alloc: Global, out: &mut String, ctx: &SCtx) -> Result<(), AllocError> {
+    out.push_str(match ctx.root {
+        Root::Closed => "closed",
+        Root::Empty(_) => "empty",
+        Root::Whole(_) => "whole",
+    })?;
+    for entry in ctx.entries.as_slice() {
+        add_entry(alloc, out, entry)?;
     }
     Ok(())
 }
 
-fn add_theorem(out: &mut String, portion: &Portion<'_>) -> Result<(), AllocError> {
-    match portion {
-        Portion::Theorem {
-            first,
-            joined,
-            kind,
-            name,
-            assumes,
-            inputs,
-            outputs,
-            targets,
-        } => {
-            add_by(out, "Theorem", first)?;
-            add(out, if *joined { "joined" } else { "alone" })?;
-            add(out, kind.text)?;
-            add(out, name.text)?;
-            add_assumed(out, *assumes)?;
-            add_inputs(out, inputs)?;
-            add_forms(out, outputs)?;
-            add_targets(out, targets)
-        }
-        _ => add_proof(out, portion),
+fn add_judgment(alloc: Global, out: &mut String, judgment: &JScheme) -> Result<(), AllocError> {
+    add_number(alloc, out, "j", judgment.judgment.0 as usize)?;
+    out.push_str(" ")?;
+    add_context(alloc, out, &judgment.ctx)?;
+    out.push_str(" ")?;
+    add_schemes(alloc, out, judgment.args.as_slice())
+}
+
+fn add_written(alloc: Global, out: &mut String, written: &Written) -> Result<(), AllocError> {
+    match written {
+        Written::Term(scheme) => add_scheme(alloc, out, scheme),
+        Written::Judgment(judgment) => add_judgment(alloc, out, judgment),
+        Written::Context(ctx) => add_context(alloc, out, ctx),
     }
 }
 
-fn add_proof(out: &mut String, portion: &Portion<'_>) -> Result<(), AllocError> {
-    match portion {
-        Portion::Step {
-            first,
-            names,
-            forms,
-            just,
-        } => {
-            add_by(out, "Step", first)?;
-            add_names(out, names)?;
-            add_forms(out, forms)?;
-            add_just(out, just)
-        }
-        Portion::Inversion {
-            first,
-            subject,
-            premises,
-            name,
-            conclusion,
-        } => {
-            add_by(out, "Inversion", first)?;
-            add_arg(out, subject)?;
-            add_head(out, premises, name, conclusion)
-        }
-        _ => add_case(out, portion),
+/// A name, its category and in brackets the categories of its parameters.
+fn add_meta(alloc: Global, out: &mut String, meta: &MetaDecl) -> Result<(), AllocError> {
+    let name = String::from_utf8_lossy(alloc, meta.name.bytes())?;
+    out.push_str("; ")?;
+    out.push_str(name.as_str())?;
+    add_number(alloc, out, "/", meta.cat.0 as usize)?;
+    for cat in meta.params.as_slice() {
+        add_number(alloc, out, "[", cat.0 as usize)?;
+        out.push_str("]")?;
     }
+    Ok(())
 }
 
-fn add_case(out: &mut String, portion: &Portion<'_>) -> Result<(), AllocError> {
-    match portion {
-        Portion::CaseRule {
-            first,
-            premises,
-            name,
-            conclusion,
-        } => {
-            add_by(out, "CaseRule", first)?;
-            add_head(out, premises, name, conclusion)
-        }
-        Portion::CaseTerm {
-            first,
-            form,
-            assumes,
-        } => {
-            add_by(out, "CaseTerm", first)?;
-            add_form(out, form)?;
-            add_assumed_form(out, *assumes)
-        }
-        Portion::End { first, part } => {
-            add_by(out, "End", first)?;
-            add(out, part_name(*part))
-        }
-        _ => Ok(()),
+/// The new metavariables, and the known variables with their entries.
+fn add_names(
+    alloc: Global,
+    out: &mut String,
+    metas: &[MetaDecl],
+    knowns: &[KnownDecl],
+) -> Result<(), AllocError> {
+    for meta in metas {
+        add_meta(alloc, out, meta)?;
     }
+    for known in knowns {
+        let name = String::from_utf8_lossy(alloc, known.name.bytes())?;
+        out.push_str("; ")?;
+        out.push_str(name.as_str())?;
+        add_entry(alloc, out, &known.entry)?;
+    }
+    Ok(())
 }
 
-fn add_assumed_form(out: &mut String, assumes: Option<Form<'_>>) -> Result<(), AllocError> {
-    match assumes {
-        Some(form) => {
-            add(out, "assumes")?;
-            add_form(out, form)
-        }
-        None => Ok(()),
-    }
+fn add_said(alloc: Global, out: &mut String, said: &Said) -> Result<(), AllocError> {
+    add_written(alloc, out, &said.written)?;
+    add_names(alloc, out, said.metas.as_slice(), said.knowns.as_slice())
 }
 
-fn part_name(part: Part) -> &'static str {
-    match part {
-        Part::Terminals => "Terminals",
-        Part::Syntax => "Syntax",
-        Part::Judgment => "Judgment",
-        Part::Theorem => "Theorem",
-        Part::Lemma => "Lemma",
-        Part::Case => "Case",
-        Part::CaseAnalysis => "CaseAnalysis",
-        Part::Induction => "Induction",
-        Part::Inversion => "Inversion",
-    }
-}
-
-fn portions_shown(alloc: Global, portions: &[Portion<'_>]) -> Result<String, AllocError> {
+/// A reading: `none`, what was read with the names that it brings, or the first two.
+pub(crate) fn reading_told(alloc: Global, reading: &Reading) -> Result<String, AllocError> {
     let mut out = String::new(alloc);
-    for portion in portions {
-        add_declared(&mut out, portion)?;
-        out.push_str("\n")?;
+    match reading {
+        Reading::One(written, metas, knowns) => {
+            add_written(alloc, &mut out, written)?;
+            add_names(alloc, &mut out, metas.as_slice(), knowns.as_slice())?;
+        }
+        Reading::NoReading => out.push_str("none")?,
+        Reading::Ambiguous(one, other) => {
+            add_said(alloc, &mut out, one)?;
+            out.push_str(" / ")?;
+            add_said(alloc, &mut out, other)?;
+        }
+        Reading::TooLong(count) => add_number(alloc, &mut out, "too long: ", *count)?,
     }
     Ok(out)
-}
-
-fn fault_shown(alloc: Global, fault: OutlineFault) -> Result<String, AllocError> {
-    match fault {
-        OutlineFault::MissingEnd(line, part) => {
-            let name = part_name(part);
-            format!(in alloc; "{line} {name}")
-        }
-        _ => format!(in alloc; "{fault:?}"),
-    }
-}
-
-fn tokens_shown(alloc: Global, tokens: &Vec<Token<'_>>) -> Result<String, AllocError> {
-    match outline(alloc, tokens) {
-        Ok(outline) => portions_shown(alloc, outline.parts.as_slice()),
-        Err(fault) => fault_shown(alloc, fault),
-    }
-}
-
-/// The outline of a text, a portion a line, or its fault.
-pub(crate) fn shown(alloc: Global, source: &[u8]) -> Result<String, AllocError> {
-    if 1 << 20 < source.len() {
-        return String::from_str(alloc, "too long");
-    }
-    match lex(alloc, source) {
-        Ok(tokens) => tokens_shown(alloc, &tokens),
-        Err(_) => String::from_str(alloc, "no tokens"),
-    }
 }
