@@ -1,5 +1,5 @@
 -- What a reader gave and a writer took, where their bytes are known.
-use Rattle.std.specs.Prelude.{◌≡◌, ◌≢◌, ℕ, ◌<◌, List, [], ◌++◌, length, IfSome}
+use Rattle.std.specs.Prelude.{◌≡◌, ◌≢◌, ℕ, ◌<◌, ◌≤◌, List, [], ◌++◌, length, IfSome}
 use Rattle.std.specs.declared.option.Option.{Option}
 use Rattle.std.specs.Io.KnownBytes.{Appends, Consumes}
 
@@ -8,6 +8,12 @@ pub record Gave (old new : Option (List ℕ)) (count : ℕ) : Type 0 where
   pub bytes : List ℕ
   pub given : Consumes old new bytes
   pub many : length bytes ≡ count
+
+-- it gave no more than so many bytes
+pub record GaveAtMost (old new : Option (List ℕ)) (most : ℕ) : Type 0 where
+  pub bytes : List ℕ
+  pub given : Consumes old new bytes
+  pub within : length bytes ≤ most
 
 -- it gave so many bytes, and they were appended
 pub record GaveInto (old new : Option (List ℕ)) (count : ℕ) (before now : List ℕ) : Type 0 where

@@ -1,6 +1,7 @@
 // What is said of a faulty text, and where.
 ghost use Rattle.std.specs.Prelude.{◌≡◌};
 ghost use Rattle.sy_base.specs.CodeName.{code_name};
+ghost use Rattle.sy_base.specs.Rank.{rank};
 ghost use Rattle.sy_base.specs.declared.fault.Refusal.TheVariants.{NoMemory as OutOfMemory};
 
 use binding_terms::{NoMemory, Text};
@@ -165,6 +166,61 @@ impl Code {
             Code::NotTheGoal => "NotTheGoal",
             Code::WrongInputs => "WrongInputs",
             Code::TooBig => "TooBig",
+        }
+    }
+
+    /// The place of a code among all codes, from 0.
+    pub fn rank(&self) -> u8
+        ensures { result ≡ rank self.now }
+    {
+        match self {
+            Code::NotUtf8 => 0,
+            Code::OpenComment => 1,
+            Code::OpenQuote => 2,
+            Code::Unexpected => 3,
+            Code::MissingEnd => 4,
+            Code::TooMany => 5,
+            Code::NotBuilt => 6,
+            Code::Duplicate => 7,
+            Code::EmptyProduction => 8,
+            Code::SingleCategory => 9,
+            Code::UnknownWord => 10,
+            Code::BadBinder => 11,
+            Code::BinderTwice => 12,
+            Code::BadContext => 13,
+            Code::NameTaken => 14,
+            Code::TooLong => 15,
+            Code::NoReading => 16,
+            Code::Ambiguous => 17,
+            Code::UnknownName => 18,
+            Code::BadConclusion => 19,
+            Code::NotStrict => 20,
+            Code::NeedsContext => 21,
+            Code::TwoAssumptions => 22,
+            Code::TargetCount => 23,
+            Code::NoRule => 24,
+            Code::NoTheorem => 25,
+            Code::NoName => 26,
+            Code::WrongCount => 27,
+            Code::RootMismatch => 28,
+            Code::ArgMismatch => 29,
+            Code::ResultMismatch => 30,
+            Code::NotInstance => 31,
+            Code::BadStep => 32,
+            Code::NoContext => 33,
+            Code::NotLast => 34,
+            Code::NoAssumptionRule => 35,
+            Code::NotTheAssumption => 36,
+            Code::Depends => 37,
+            Code::NotSmaller => 38,
+            Code::Outside => 39,
+            Code::MissingCase => 40,
+            Code::DuplicateCase => 41,
+            Code::ImpossibleCase => 42,
+            Code::NotMostGeneral => 43,
+            Code::NotTheGoal => 44,
+            Code::WrongInputs => 45,
+            Code::TooBig => 46,
         }
     }
 }
