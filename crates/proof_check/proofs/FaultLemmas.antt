@@ -238,7 +238,7 @@ no_fault_yet source portions sig law has built is line spelling detail (of_outli
 no_fault_yet source portions sig law has built is line spelling detail (of_not_built token first before told) = built (record { token = token; is = first.is })
 no_fault_yet source portions sig law has built is line spelling detail (of_grammar others code others_has none first named) =
     let same : others ≡ portions = portions_unique source others portions others_has has in
-    law others sig code first.token detail (subst (λ (ps : List PlainPortion). IsSignatureOf ps sig) (sym same) is) first.stands
+    law others sig code first.point detail (subst (λ (ps : List PlainPortion). IsSignatureOf ps sig) (sym same) is) first.is_first.stands
 
 pub told_signature : (source : List ℕ) (portions : List PlainPortion) (sig : Signature) → FaultyFilesHaveNoSignature → HasPortions source portions → (HasNotBuilt source → ⊥) →
     IsSignatureOf portions sig → IsSignatureOf portions sig × HasNoFaultYet source

@@ -1,16 +1,17 @@
 -- A source has one first fault of its grammar at most.
-use native.Mathlib.Omega.{arith}
-use Rattle.std.proofs.Common.{◌≡◌, ◌⊎◌, ◌<◌, ◌≤◌, ℕ, zero, suc, List, [], ◌∷◌, ◌++◌, map, inl, inr, refl, sym, ap, subst, ◌∙◌}
+use Rattle.std.proofs.Common.{◌≡◌, ◌⊎◌, ℕ, List, [], ◌∷◌, ◌++◌, map, inl, inr, refl, sym, ap, subst, ◌∙◌}
 use Rattle.std.specs.List.{Contains}
 use Rattle.binding_terms.specs.Numbered.{AnyByRecursion}
+use Rattle.sy_base.specs.FirstFault.{at_token}
 use Rattle.sy_base.specs.Tokens.{PlainToken}
 use Rattle.sy_base.specs.declared.fault.Code.{Code}
 use Rattle.sy_base.specs.declared.fault.Code.TheVariants as code
+use Rattle.sy_base.proofs.FirstLemmas.{IsToldFirst-both}
 use Rattle.sy_base.proofs.PlaceLemmas.{tokens_stand}
 use Rattle.outline_reader.specs.Fields.{named}
 use Rattle.outline_reader.specs.Plain.{PlainPortion, terminals, category, judgment_of, theorem_of, plain_portion, HasPortions}
 use Rattle.user_grammar.specs.File.{WrittenCategory, categories}
-use Rattle.user_grammar.specs.Fault.{Declared, declared_as, a_terminal, a_variable, DeclareAll, DeclaresHere, AreVariables, no_variables, a_word, a_production, IsDuplicate, common_spelling, second_variable, IsWrongInBrackets, no_word, no_binder, again, no_comma, not_closed, AssumesHere, IsFault, duplicate, empty_production, single_category, unknown_word, unknown_context, bad_binder, binder_twice, bad_context, IsFirstFault, IsToldFirst, rank}
+use Rattle.user_grammar.specs.Fault.{Declared, declared_as, a_terminal, a_variable, DeclareAll, DeclaresHere, AreVariables, no_variables, a_word, a_production, IsDuplicate, common_spelling, second_variable, IsWrongInBrackets, no_word, no_binder, again, no_comma, not_closed, AssumesHere, IsFault, duplicate, empty_production, single_category, unknown_word, unknown_context, bad_binder, binder_twice, bad_context, IsFirstFault}
 use Rattle.proof_check.proofs.TokenLemmas.{same_place}
 use Rattle.proof_check.proofs.PortionTokens.{In, in_split, InForms, BehindName, InPortion, of_source, category_portion}
 use Rattle.proof_check.proofs.CategoryTokens.{IsCategoryIn, rising, one_name}
@@ -62,16 +63,6 @@ declared_split : (before after : List Declared) (d : Declared) → AnyByRecursio
 declared_split [] after d = inl refl
 declared_split (one ∷ before) after d = inr (declared_split before after d)
 
--- the code with a rank
-abbrev ranked : ℕ → Code
-ranked zero = code.Duplicate
-ranked (suc zero) = code.EmptyProduction
-ranked (suc (suc zero)) = code.SingleCategory
-ranked (suc (suc (suc zero))) = code.UnknownWord
-ranked (suc (suc (suc (suc zero)))) = code.BadBinder
-ranked (suc (suc (suc (suc (suc zero))))) = code.BinderTwice
-ranked (suc (suc (suc (suc (suc (suc n)))))) = code.BadContext
-
 -- the code is told with the name of the category in which its token stands
 abbrev TellsCategory : Code → Type 0
 TellsCategory code.SingleCategory = Unit {0}
@@ -120,22 +111,19 @@ module _ (ps : List PlainPortion) (token : PlainToken) where
 
   pub record Told (found : Code) (detail : List ℕ) : Type 0 where
     pub here : Here
-    pub of_rank : found ≡ ranked (rank found)
     pub kind : IsOfToken found detail ⊎ IsOfCategory found detail
 
-  of_code : (one found : Code) (detail : List ℕ) → found ≡ one → one ≡ ranked (rank one) → (TellsCategory one → ⊥) → detail ≡ token.text → Here → Told found detail
-  of_code one found detail same of_rank other words here = record {
+  of_code : (one found : Code) (detail : List ℕ) → found ≡ one → (TellsCategory one → ⊥) → detail ≡ token.text → Here → Told found detail
+  of_code one found detail same other words here = record {
     here = here;
-    of_rank = subst (λ (c : Code). c ≡ ranked (rank c)) (sym same) of_rank;
     kind = inl ((λ tells. other (subst TellsCategory same tells)), words);
   }
 
   told : (found : Code) (detail : List ℕ) → IsFault ps found token detail → Told found detail
-  told found detail (duplicate same words is) = of_code code.Duplicate found detail same refl (λ none. none) words (duplicate_here is)
-  told found detail (empty_production written same words holds name has) = of_code code.EmptyProduction found detail same refl (λ none. none) words (in_category written holds (inl (sym name)))
+  told found detail (duplicate same words is) = of_code code.Duplicate found detail same (λ none. none) words (duplicate_here is)
+  told found detail (empty_production written same words holds name has) = of_code code.EmptyProduction found detail same (λ none. none) words (in_category written holds (inl (sym name)))
   told found detail (single_category written rest same words holds has one) = record {
     here = in_form written (token ∷ rest) holds has (inl refl);
-    of_rank = subst (λ (c : Code). c ≡ ranked (rank c)) (sym same) refl;
     kind = inr (
       subst TellsCategory (sym same) tt,
       (
@@ -148,46 +136,21 @@ module _ (ps : List PlainPortion) (token : PlainToken) where
   }
   told found detail (unknown_word written form same words holds has is) =
       let stands = is.stands.stands in
-      of_code code.UnknownWord found detail same refl (λ none. none) words (in_form written form holds has (stands_in form stands.front stands.rest stands.split))
+      of_code code.UnknownWord found detail same (λ none. none) words (in_form written form holds has (stands_in form stands.front stands.rest stands.split))
   told found detail (unknown_context p same words holds assumes none) =
-      of_code code.UnknownWord found detail same refl (λ none. none) words
+      of_code code.UnknownWord found detail same (λ none. none) words
       (any_one (InPortion token) ps p (contains_any ps p holds.0 holds.1 holds.2) (assumed_here p assumes))
   told found detail (bad_binder written form same words holds has is) =
-      of_code code.BadBinder found detail same refl (λ none. none) words (in_form written form holds has (wrong_here form is))
+      of_code code.BadBinder found detail same (λ none. none) words (in_form written form holds has (wrong_here form is))
   told found detail (binder_twice written form same words holds has is) =
       let stands = is.stands.stands in
-      of_code code.BinderTwice found detail same refl (λ none. none) words (in_form written form holds has (stands_in form stands.front stands.rest stands.split))
+      of_code code.BinderTwice found detail same (λ none. none) words (in_form written form holds has (stands_in form stands.front stands.rest stands.split))
   told found detail (bad_context written same words holds mark among none) = record {
     here = in_category written holds (inr (inl (sym mark)));
-    of_rank = subst (λ (c : Code). c ≡ ranked (rank c)) (sym same) refl;
     kind = inr (subst TellsCategory (sym same) tt, (written, contains_any (categories ps) written holds.0 holds.1 holds.2, inl (sym mark), words));
   }
 
 -- ---- one first fault
-
-told_both : (one two : Code) (a b : PlainToken) → IsToldFirst one a two b → IsToldFirst two b one a → (a.line ≡ b.line) × (rank one ≡ rank two) × (a.from ≡ b.from)
-told_both one two a b (inl x) (inl y) = absurd (let never : ⊥ = (omega arith) in never)
-told_both one two a b (inl x) (inr y) = absurd (let e = y.0 in let never : ⊥ = (omega arith) in never)
-told_both one two a b (inr x) (inl y) = absurd (let e = x.0 in let never : ⊥ = (omega arith) in never)
-told_both one two a b (inr x) (inr y) = let told = by_rank x.1 y.1 in (x.0, told.0, told.1)
-  where
-    by_rank : (rank one < rank two) ⊎ ((rank one ≡ rank two) × (a.from ≤ b.from)) → (rank two < rank one) ⊎ ((rank two ≡ rank one) × (b.from ≤ a.from)) → (rank one ≡ rank two) × (a.from ≡ b.from)
-    by_rank (inl p) (inl q) = absurd (apart (rank one) (rank two) p q)
-      where
-        apart : (m n : ℕ) → m < n → n < m → ⊥
-        apart m n p q = (omega arith)
-    by_rank (inl p) (inr q) = absurd (apart (rank one) (rank two) p q.0)
-      where
-        apart : (m n : ℕ) → m < n → n ≡ m → ⊥
-        apart m n p q = (omega arith)
-    by_rank (inr p) (inl q) = absurd (apart (rank one) (rank two) p.0 q)
-      where
-        apart : (m n : ℕ) → m ≡ n → n < m → ⊥
-        apart m n p q = (omega arith)
-    by_rank (inr p) (inr q) = (p.0, both a.from b.from p.1 q.1)
-      where
-        both : (m n : ℕ) → m ≤ n → n ≤ m → m ≡ n
-        both m n p q = (omega arith)
 
 module _ (source : List ℕ) (ps : List PlainPortion) (has : HasPortions source ps) where
   same_name : (one two : WrittenCategory) (t u : PlainToken) → IsCategoryIn ps one → IsCategoryIn ps two → BehindName one t → BehindName two u → t.from ≡ u.from → one.name ≡ two.name
@@ -209,12 +172,12 @@ module _ (source : List ℕ) (ps : List PlainPortion) (has : HasPortions source 
   pub one_grammar_fault : (line other : ℕ) (found others : Code) (detail words : List ℕ) →
       IsFirstFault ps line found detail → IsFirstFault ps other others words → (line ≡ other) × (found ≡ others) × (detail ≡ words)
   one_grammar_fault line other found others detail words one two =
-      let one_told = told ps one.token found detail one.stands in
-      let two_told = told ps two.token others words two.stands in
-      let both = told_both found others one.token two.token (one.first others two.token words two.stands) (two.first found one.token detail one.stands) in
-      let code_same : found ≡ others = one_told.of_rank ∙ ap ranked both.1 ∙ sym two_told.of_rank in
-      let token_same : one.token ≡ two.token = same_place source one.token two.token (of_source source ps one.token has one_told.here) (of_source source ps two.token has two_told.here) both.2 in (
-        one.line_is ∙ both.0 ∙ sym two.line_is,
-        code_same,
-        same_detail found one.token two.token detail words token_same one_told (subst (λ (c : Code). Told ps two.token c words) (sym code_same) two_told),
+      let one_told = told ps one.point found detail one.is_first.stands in
+      let two_told = told ps two.point others words two.is_first.stands in
+      let both = IsToldFirst-both found others (at_token one.point) (at_token two.point)
+      (one.is_first.first others two.point words two.is_first.stands) (two.is_first.first found one.point detail one.is_first.stands) in
+      let token_same : one.point ≡ two.point = same_place source one.point two.point (of_source source ps one.point has one_told.here) (of_source source ps two.point has two_told.here) both.2 in (
+        one.line_is ∙ both.1 ∙ sym two.line_is,
+        both.0,
+        same_detail found one.point two.point detail words token_same one_told (subst (λ (c : Code). Told ps two.point c words) (sym both.0) two_told),
       )

@@ -6,7 +6,7 @@ use Rattle.proof_lexer.specs.declared.token.Token.{Token}
 use Rattle.outline_reader.specs.Plain.{PlainPortion, plain_form}
 use Rattle.user_grammar.specs.File.{WrittenCategory}
 use Rattle.user_grammar.specs.Fault.{ExactlyOne, HasNoBrackets, IsBinderWord, IsEntryForm, IsWordOf}
-use Rattle.user_grammar.proofs.FaultLeast.{refused}
+use Rattle.user_grammar.proofs.Tests.{refused}
 use Rattle.user_grammar.specs.FindingContexts.{One}
 
 pub one_exactly : {A : Type 0} (P : A → Type 0) (xs : List A) → One P xs → ExactlyOne P xs

@@ -13,11 +13,12 @@ use Rattle.user_grammar.specs.Made.{plains}
 use Rattle.rule_schemes.specs.Reading.{IsSpelling}
 use Rattle.user_grammar.specs.File.{WrittenCategory, categories}
 use Rattle.user_grammar.specs.Fault.{Sort, a_terminal, a_category, a_variable, Declared, declared_as, IsSpelledAs, AreVariables, no_variables, a_word, a_production, DeclaresHere, DeclareAll, IsDuplicate, common_spelling, second_variable}
-use Rattle.user_grammar.specs.Finding.{IsLeast, IsEarlierOf, OfSome, Either, AtToken, IsFoundAt, HaveCommon, IsCommon, IsOneToken, IsSecond, declaration_view}
-use Rattle.user_grammar.specs.declared.fault_found.Found.{Found}
+use Rattle.sy_base.specs.FirstFault.{OfSome, Either, at_token, IsEarlierOf}
+use Rattle.user_grammar.specs.Finding.{IsLeast, AtToken, IsFoundAt, HaveCommon, IsCommon, IsOneToken, IsSecond, declaration_view, lent_words, LentFault}
 use Rattle.user_grammar.specs.declared.fault_declared.Declaration.{Declaration}
 use Rattle.user_grammar.proofs.Spellings.{common_spelling as spells_other}
-use Rattle.user_grammar.proofs.FaultLeast.{least_same, least_token_more, least_token_same, least_none, refused}
+use Rattle.sy_base.proofs.FirstLemmas.{found_point_more, found_point_same, found_same, none_found}
+use Rattle.user_grammar.proofs.Tests.{refused}
 use Rattle.rule_schemes.proofs.SpellingLemmas.{IsSpelling_itself}
 use Rattle.binding_terms.proofs.Lists.{any_back, any_contained, any_front, any_split, contained_any, nothing_before, split_last}
 
@@ -83,24 +84,24 @@ pub one_more : (xs : List Declaration) (i : ℕ) (d : Declaration) → i < lengt
 one_more xs i d lt = sym (map-append declaration_view (take i xs) (get_or xs i d ∷ [])) ∙ ap (map declaration_view) (sym (take_more xs i d lt))
 
 -- one declaration more, with a common spelling
-pub common_more : (ds : List Declared) (x : Declared) (f : Found) (a r : Option Found) → AnyByRecursion (λ earlier. HaveCommon earlier x) ds → IsFoundAt Duplicate x.token f
+pub common_more : (ds : List Declared) (x : Declared) (f : LentFault) (a r : Option LentFault) → AnyByRecursion (λ earlier. HaveCommon earlier x) ds → IsFoundAt Duplicate x.token f
     → IsEarlierOf a (Some f) r → IsLeast (AtToken Duplicate (IsCommon ds)) a → IsLeast (AtToken Duplicate (IsCommon (ds ++ x ∷ []))) r
 common_more ds x f a r common found is all =
-    least_token_more Duplicate (IsCommon ds) (IsCommon (ds ++ x ∷ [])) x.token f a r (common_kept ds x)
+    found_point_more at_token lent_words Duplicate (λ one. one.text) (IsCommon ds) (IsCommon (ds ++ x ∷ [])) x.token f a r (common_kept ds x)
     (λ s y. elim (common_cases ds x s y) [ inl l ↦ inl l | inr m ↦ inr m.0 ]) (common_new ds x common) found is all
 
 -- one without
-pub common_same : (ds : List Declared) (x : Declared) (a : Option Found) → (AnyByRecursion (λ earlier. HaveCommon earlier x) ds → ⊥)
+pub common_same : (ds : List Declared) (x : Declared) (a : Option LentFault) → (AnyByRecursion (λ earlier. HaveCommon earlier x) ds → ⊥)
     → IsLeast (AtToken Duplicate (IsCommon ds)) a → IsLeast (AtToken Duplicate (IsCommon (ds ++ x ∷ []))) a
 common_same ds x a none all =
-    least_token_same Duplicate (IsCommon ds) (IsCommon (ds ++ x ∷ [])) a (common_kept ds x)
+    found_point_same at_token lent_words Duplicate (λ one. one.text) (IsCommon ds) (IsCommon (ds ++ x ∷ [])) a (common_kept ds x)
     (λ s y. elim (common_cases ds x s y) [ inl l ↦ l | inr m ↦ absurd (none m.1) ]) all
 
 no_common : (t : PlainToken) → IsCommon [] t → ⊥
 no_common t is = nothing_before is.before (declared_as is.sort t) is.after is.split
 
 pub least_no_common : IsLeast (AtToken Duplicate (IsCommon [])) None
-least_no_common = least_none (AtToken Duplicate (IsCommon [])) (λ c t d x. no_common t x.2)
+least_no_common = none_found at_token lent_words (AtToken Duplicate (IsCommon [])) (λ c t d x. no_common t x.2)
 
 -- two declared words have a common spelling where one spells the other
 spelled_itself : (d : Declared) → IsSpelledAs d d.token.text
@@ -138,26 +139,26 @@ one_token_cases ts t s is = elim (any_split (λ one. one ≡ s) ts (t ∷ []) is
   | inr r ↦ elim r [ inl same ↦ inr (sym same) | inr never ↦ absurd never ]
 ]
 
-pub token_more : {X : Type 0} (view : X → PlainToken) (c : Code) (xs : List X) (i : ℕ) (d : X) (f : Found) (a r : Option Found) → i < length xs
+pub token_more : {X : Type 0} (view : X → PlainToken) (c : Code) (xs : List X) (i : ℕ) (d : X) (f : LentFault) (a r : Option LentFault) → i < length xs
     → IsFoundAt c (view (get_or xs i d)) f → IsEarlierOf a (Some f) r
     → IsLeast (AtToken c (IsOneToken (map view (take i xs)))) a → IsLeast (AtToken c (IsOneToken (map view (take (i + 1) xs)))) r
 token_more view c xs i d f a r lt found is all =
     let ts = map view (take i xs) in let t = view (get_or xs i d) in
     let more : ts ++ t ∷ [] ≡ map view (take (i + 1) xs) = sym (map-append view (take i xs) (get_or xs i d ∷ [])) ∙ ap (map view) (sym (take_more xs i d lt)) in
     subst (λ ys. IsLeast (AtToken c (IsOneToken ys)) r) more
-    (least_token_more c (IsOneToken ts) (IsOneToken (ts ++ t ∷ [])) t f a r
+    (found_point_more at_token lent_words c (λ one. one.text) (IsOneToken ts) (IsOneToken (ts ++ t ∷ [])) t f a r
     (λ s y. record { is = any_front (λ one. one ≡ s) ts (t ∷ []) y.is }) (one_token_cases ts t) (record { is = any_back (λ one. one ≡ t) ts (t ∷ []) (inl refl) }) found is all)
 
 -- ---- second variables
 
-pub second_by_others : (c : Code) (portions : List PlainPortion) (forms : List (List PlainToken)) (v : PlainToken) (others : List PlainToken) (r : Option Found)
+pub second_by_others : (c : Code) (portions : List PlainPortion) (forms : List (List PlainToken)) (v : PlainToken) (others : List PlainToken) (r : Option LentFault)
     → AreVariables portions forms (v ∷ others) → IsLeast (AtToken c (IsOneToken others)) r → IsLeast (AtToken c (IsSecond portions forms)) r
-second_by_others c portions forms v others r are = least_token_same c (IsOneToken others) (IsSecond portions forms) r
+second_by_others c portions forms v others r are = found_point_same at_token lent_words c (λ one. one.text) (IsOneToken others) (IsSecond portions forms) r
     (λ s y. record { first = v; others = others; variables = are; second = y })
     (λ s y. subst (λ ts. IsOneToken ts s) (let whole : y.first ∷ y.others ≡ v ∷ others = one_variables portions y.variables are in let tail : y.others ≡ others = cc in tail) y.second)
 
 pub no_second : (c : Code) (portions : List PlainPortion) (forms : List (List PlainToken)) → AreVariables portions forms [] → IsLeast (AtToken c (IsSecond portions forms)) None
-no_second c portions forms are = least_none (AtToken c (IsSecond portions forms)) (λ o t d x. some_first x.2.first x.2.others (one_variables portions x.2.variables are))
+no_second c portions forms are = none_found at_token lent_words (AtToken c (IsSecond portions forms)) (λ o t d x. some_first x.2.first x.2.others (one_variables portions x.2.variables are))
   where
     some_first : (v : PlainToken) (others : List PlainToken) → v ∷ others ≡ [] → ⊥
     some_first v others e = cc
@@ -206,9 +207,9 @@ duplicate_cases portions all c t d are code detail (second_variable written firs
           (code, detail, record { first = first; others = before ++ t ∷ after; variables = variables; second = record { is = split_token before t after } });
     })
 
-pub duplicate_by_two : (portions : List PlainPortion) (all : List Declared) (r : Option Found) → DeclareAll portions portions all
+pub duplicate_by_two : (portions : List PlainPortion) (all : List Declared) (r : Option LentFault) → DeclareAll portions portions all
     → IsLeast (Either (AtToken Duplicate (IsCommon all)) (OfSome (Seconds portions) (categories portions))) r → IsLeast (AtToken Duplicate (IsDuplicate portions)) r
-duplicate_by_two portions all r are = least_same (Either (AtToken Duplicate (IsCommon all)) (OfSome (Seconds portions) (categories portions))) (AtToken Duplicate (IsDuplicate portions)) r
+duplicate_by_two portions all r are = found_same at_token lent_words (Either (AtToken Duplicate (IsCommon all)) (OfSome (Seconds portions) (categories portions))) (AtToken Duplicate (IsDuplicate portions)) r
     (λ c t d x. elim x [
       | inl y ↦ (y.0, y.1, duplicate_by_common portions all t are y.2)
       | inr y ↦ (let some = contained_any (λ w. Seconds portions w c t d) (categories portions) y.some in (some.2.0, some.2.1, duplicate_by_second portions some.0 t some.1 some.2.2))
@@ -225,7 +226,7 @@ declare_more portions xs i x old own new lt at all here same =
     subst (λ ps. DeclareAll portions ps new) more (subst (DeclareAll portions (plains (take i xs) ++ view x ∷ [])) (sym same) (declare_push portions (plains (take i xs)) (view x) old own all here))
 
 -- a category's variables but the first
-pub second_of_all : {X : Type 0} (view : X → PlainToken) (c : Code) (portions : List PlainPortion) (forms : List (List PlainToken)) (xs : List X) (r : Option Found) → 1 ≤ length xs
+pub second_of_all : {X : Type 0} (view : X → PlainToken) (c : Code) (portions : List PlainPortion) (forms : List (List PlainToken)) (xs : List X) (r : Option LentFault) → 1 ≤ length xs
     → AreVariables portions forms (map view xs) → IsLeast (AtToken c (IsOneToken (map view (take (length xs - 1) (drop 1 xs))))) r → IsLeast (AtToken c (IsSecond portions forms)) r
 second_of_all view c portions forms [] r le are others = absurd (omega (arith, le))
 second_of_all view c portions forms (x ∷ xs) r le are others =

@@ -9,7 +9,7 @@ use Rattle.user_grammar.specs.Fault.{IsSlotWord, IsOneSlot}
 use Rattle.user_grammar.specs.Finding.{BracketsLeft, GoesOn, IsSingle}
 use Rattle.user_grammar.specs.declared.fault_form.Expected.{Expected}
 use Rattle.user_grammar.specs.declared.fault_form.Expected.TheVariants.{Opening, Name, Comma}
-use Rattle.user_grammar.proofs.FaultLeast.{refused}
+use Rattle.user_grammar.proofs.Tests.{refused}
 
 pub bracket_goes_on : (t : PlainToken) → IsMark 91 t → GoesOn Opening t Name
 bracket_goes_on t is = record { goes_on = λ rest. ((λ b. b.1), (λ b. (is, b))) }

@@ -6,16 +6,17 @@ use Rattle.sy_base.specs.Tokens.{PlainToken}
 use Rattle.proof_lexer.specs.View.{token_view}
 use Rattle.proof_lexer.specs.declared.token.Token.{Token}
 use Rattle.outline_reader.specs.Plain.{PlainPortion, plain_form}
+use Rattle.sy_base.specs.FirstFault.{at_token, IsFoundAt as IsThere}
 use Rattle.user_grammar.specs.File.{WrittenCategory, assumed, categories}
 use Rattle.user_grammar.specs.Names.{IsAmong}
-use Rattle.user_grammar.specs.Finding.{IsLeast}
+use Rattle.user_grammar.specs.Finding.{IsLeast, lent_words, LentFault}
 use Rattle.user_grammar.specs.FindingPlaces.{IsBadContext, BadContextOf}
-use Rattle.user_grammar.specs.declared.fault_found.Found.{Found}
 use Rattle.sy_base.specs.declared.fault.Code.TheVariants.{BadContext}
 use Rattle.user_grammar.specs.Fault.{Place, IsOutside, IsPlaceBehind, IsWordOf, DeclaresVariable, IsEmptyForm, IsEntryForm, IsOnlyInFront, IsContextCategory}
 use Rattle.user_grammar.specs.FindingContexts.{One, AllPoints, IsInFront, KeepsFront}
 use Rattle.user_grammar.proofs.FaultContexts.{one_exactly, exactly_one}
-use Rattle.user_grammar.proofs.FaultLeast.{refused, least_none, least_named}
+use Rattle.sy_base.proofs.FirstLemmas.{found_one, none_found}
+use Rattle.user_grammar.proofs.Tests.{refused}
 use Rattle.user_grammar.proofs.FaultPoints.{every_point}
 use Rattle.user_grammar.proofs.FaultTokens.{form_split, split_near}
 use Rattle.binding_terms.proofs.Lists.{all_contained, all_from}
@@ -105,12 +106,12 @@ only_by_all portions written r is =
 
 module _ (portions : List PlainPortion) (written : WrittenCategory) where
   pub not_assumed : (r : Bool) → (IsTrue r ↔ IsAmong (assumed portions) written.name.text) → r ≡ false → IsLeast (BadContextOf portions written) None
-  not_assumed r is none = least_none (BadContextOf portions written) (λ o t d x. refused r is none x.2.assumed)
+  not_assumed r is none = none_found at_token lent_words (BadContextOf portions written) (λ o t d x. refused r is none x.2.assumed)
 
   pub rule_kept : IsContextCategory portions written → IsLeast (BadContextOf portions written) None
-  rule_kept keeps = least_none (BadContextOf portions written) (λ o t d x. x.2.breaks keeps)
+  rule_kept keeps = none_found at_token lent_words (BadContextOf portions written) (λ o t d x. x.2.breaks keeps)
 
-  pub rule_broken : (f : Found) → f.code ≡ BadContext → token_view f.token.now ≡ written.mark → f.detail.now ≡ written.name.text
+  pub rule_broken : (f : LentFault) → IsThere at_token lent_words BadContext written.mark written.name.text f
       → IsAmong (assumed portions) written.name.text → (IsContextCategory portions written → ⊥) → IsLeast (BadContextOf portions written) (Some f)
-  rule_broken f code token detail among breaks =
-      least_named BadContext written.name.text (IsBadContext portions written) written.mark f code token detail (record { marked = refl; assumed = among; breaks = breaks }) (λ s y. y.marked)
+  rule_broken f found among breaks =
+      found_one at_token lent_words BadContext (λ one. written.name.text) (IsBadContext portions written) written.mark f found (record { marked = refl; assumed = among; breaks = breaks }) (λ s y. y.marked)

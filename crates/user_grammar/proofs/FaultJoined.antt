@@ -7,7 +7,8 @@ use Rattle.sy_base.specs.declared.fault.Code.TheVariants as code
 use Rattle.outline_reader.specs.Plain.{PlainPortion}
 use Rattle.user_grammar.specs.File.{WrittenCategory, categories}
 use Rattle.user_grammar.specs.Fault.{Place, outside, behind_slot, before_word, behind_word, IsPlaceBehind, IsFault, duplicate, empty_production, single_category, unknown_word, unknown_context, bad_binder, binder_twice, bad_context, IsWrongInBrackets, no_word, no_binder, again, no_comma, not_closed, StandsAt}
-use Rattle.user_grammar.specs.Finding.{OfSome, ShortOf, SingleOf, UnknownContexts}
+use Rattle.sy_base.specs.FirstFault.{OfSome}
+use Rattle.user_grammar.specs.Finding.{ShortOf, SingleOf, UnknownContexts}
 use Rattle.user_grammar.specs.FindingPlaces.{IsWrongAt, HasCode, unknown, wrong, twice, TokensOf, InProductions, ButContexts, BadContextOf}
 use Rattle.user_grammar.proofs.FaultTokens.{split_near}
 use Rattle.binding_terms.proofs.Lists.{any_contained, contained_any}

@@ -9,15 +9,14 @@ use Rattle.sy_base.specs.declared.fault.Code.TheVariants.{Duplicate}
 use Rattle.user_grammar.specs.Names.{IsAmong}
 use Rattle.user_grammar.specs.Indexed.{HaveSame, IsAdded, names_in}
 use Rattle.user_grammar.specs.Fault.{Sort, a_terminal, a_category, a_variable, Declared, declared_as}
-use Rattle.user_grammar.specs.Finding.{IsLeast, AtToken, HaveCommon, HaveSeen, IsCommon, declaration_view, words_if, terminal_words, alone_if, names_alone}
-use Rattle.user_grammar.specs.declared.fault_found.Found.{Found}
+use Rattle.user_grammar.specs.Finding.{IsLeast, AtToken, HaveCommon, HaveSeen, IsCommon, declaration_view, words_if, terminal_words, alone_if, names_alone, LentFault}
 use Rattle.user_grammar.specs.declared.fault_declared.Declaration.{Declaration}
 use Rattle.user_grammar.specs.declared.fault_declared.Seen.{Seen}
 use Rattle.user_grammar.specs.declared.name_index.NameIndex.{NameIndex}
 use Rattle.std.specs.Result.{OnOk}
 use Rattle.std.specs.declared.result.Result.{Result}
 use Rattle.indexmap.proofs.MapLemmas.{OnOk-map}
-use Rattle.user_grammar.proofs.FaultLeast.{refused}
+use Rattle.user_grammar.proofs.Tests.{refused}
 use Rattle.user_grammar.proofs.FaultDeclared.{one_more}
 use Rattle.user_grammar.proofs.NameIndexes.{same_one_more}
 
@@ -138,7 +137,7 @@ see_terminal_ok r s t word old new is same names added =
     OnOk-map r (IsAdded (names_in old.terminals) word (names_in new.terminals)) ((before : List Declared) → HaveSeen before old → HaveSeen (before ++ declared_as s t ∷ []) new)
     (λ there. see_terminal s t word old new is same there names) added
 
-pub seen_more : (xs : List Declaration) (i : ℕ) (d : Declaration) (f r : Option Found) (old new : Seen) → i < length xs
+pub seen_more : (xs : List Declaration) (i : ℕ) (d : Declaration) (f r : Option LentFault) (old new : Seen) → i < length xs
     → (IsLeast (AtToken Duplicate (IsCommon (map declaration_view (take i xs)))) f
     → IsLeast (AtToken Duplicate (IsCommon (map declaration_view (take i xs) ++ declaration_view (get_or xs i d) ∷ []))) r)
     → ((before : List Declared) → HaveSeen before old → HaveSeen (before ++ declaration_view (get_or xs i d) ∷ []) new)

@@ -10,11 +10,11 @@ use Rattle.outline_reader.specs.Plain.{PlainPortion, plain_form}
 use Rattle.user_grammar.specs.File.{listed}
 use Rattle.user_grammar.specs.Names.{IsAmong}
 use Rattle.user_grammar.specs.Production.{IsTerminal}
-use Rattle.user_grammar.specs.Fault.{Place, outside, behind_slot, before_word, behind_word, IsOutside, IsSlotWord, IsBinderWord, IsBinderOf, Follows, IsPlaceBehind, behind_one_more, IsToldFirst, rank}
-use Rattle.user_grammar.specs.Finding.{IsLeast, IsFoundAt, IsEarlierOf, Either}
+use Rattle.user_grammar.specs.Fault.{Place, outside, behind_slot, before_word, behind_word, IsOutside, IsSlotWord, IsBinderWord, IsBinderOf, Follows, IsPlaceBehind, behind_one_more}
+use Rattle.sy_base.specs.FirstFault.{Either, at_token, IsEarlierOf}
+use Rattle.user_grammar.specs.Finding.{IsLeast, IsFoundAt, lent_words, LentFault}
 use Rattle.user_grammar.specs.FindingPlaces.{AreBinders, IsWrongAt, HasCode, unknown, wrong, twice, AtPlace, AmongFirst, TokensOf}
-use Rattle.user_grammar.specs.declared.fault_found.Found.{Found}
-use Rattle.user_grammar.proofs.FaultLeast.{least_same, least_none, least_of_two}
+use Rattle.sy_base.proofs.FirstLemmas.{found_alone, found_of_two, found_same, none_found}
 use Rattle.user_grammar.proofs.FaultPlaces.{place_once}
 use Rattle.binding_terms.proofs.Lists.{nothing_before, same_split_behind, split_last}
 
@@ -113,29 +113,18 @@ module _ (portions : List PlainPortion) (form front rest : List PlainToken) (pla
   outside_not_wrong (behind_word named) out is = out
 
   pub none_at_place : ((o : Code) → Has o → ⊥) → IsLeast (AtPlace portions form front rest place t) None
-  none_at_place none = least_none (AtPlace portions form front rest place t) (λ o s d x. none o x.has)
+  none_at_place none = none_found at_token lent_words (AtPlace portions form front rest place t) (λ o s d x. none o x.has)
 
-  pub least_at_place : (c : Code) (f : Found) → IsFoundAt c t f → Has c → ((o : Code) → Has o → o ≡ c) → IsLeast (AtPlace portions form front rest place t) (Some f)
-  least_at_place c f found is only = record {
-    least = record {
-      stands = record {
-        there = found.token_is;
-        text = found.detail_is ∙ sym (ap (λ (x : PlainToken). x.text) found.token_is);
-        has = subst Has (sym found.code_is) is;
-      };
-      first = λ o s w x. told_same f.code o (token_view f.token.now) s (found.code_is ∙ sym (only o x.has)) (found.token_is ∙ sym x.there);
-    };
-  }
-    where
-      told_same : (a b : Code) (s u : PlainToken) → a ≡ b → s ≡ u → IsToldFirst a s b u
-      told_same a b s u same at = inr (ap (λ (x : PlainToken). x.line) at, inr (ap rank same, omega (arith, ap (λ (x : PlainToken). x.from) at)))
+  pub least_at_place : (c : Code) (f : LentFault) → IsFoundAt c t f → Has c → ((o : Code) → Has o → o ≡ c) → IsLeast (AtPlace portions form front rest place t) (Some f)
+  least_at_place c f found is only = found_alone at_token lent_words (AtPlace portions form front rest place t) c t t.text f found (record { there = refl; text = refl; has = is })
+      (λ o s w x. (only o x.has, ap at_token x.there))
 
   twice_only : IsOutside place t → IsBinderWord portions t → (o : Code) → Has o → o ≡ code.BinderTwice
   twice_only out word o (unknown e is no_slot no_binder no_terminal) = absurd (no_binder word)
   twice_only out word o (wrong e is) = absurd (outside_not_wrong place out is)
   twice_only out word o (twice e is binder earlier) = e
 
-  pub least_twice : (f : Found) → IsFoundAt code.BinderTwice t f → IsOutside place t → IsBinderWord portions t → IsBinderOf portions front t.text → IsLeast (AtPlace portions form front rest place t) (Some f)
+  pub least_twice : (f : LentFault) → IsFoundAt code.BinderTwice t f → IsOutside place t → IsBinderWord portions t → IsBinderOf portions front t.text → IsLeast (AtPlace portions form front rest place t) (Some f)
   least_twice f found out word earlier = least_at_place code.BinderTwice f found (twice refl out word earlier) (twice_only out word)
 
   pub none_twice : IsOutside place t → IsBinderWord portions t → (IsBinderOf portions front t.text → ⊥) → IsLeast (AtPlace portions form front rest place t) None
@@ -162,7 +151,7 @@ module _ (portions : List PlainPortion) (form front rest : List PlainToken) (pla
       never o (wrong e is) = outside_not_wrong place out is
       never o (twice e is binder earlier) = no_word binder
 
-  pub least_unknown : (f : Found) → IsFoundAt code.UnknownWord t f → IsOutside place t → (IsBinderWord portions t → ⊥) → (IsSlotWord portions t → ⊥) → (IsTerminal (listed portions) t → ⊥)
+  pub least_unknown : (f : LentFault) → IsFoundAt code.UnknownWord t f → IsOutside place t → (IsBinderWord portions t → ⊥) → (IsSlotWord portions t → ⊥) → (IsTerminal (listed portions) t → ⊥)
       → IsLeast (AtPlace portions form front rest place t) (Some f)
   least_unknown f found out no_word no_slot no_terminal = least_at_place code.UnknownWord f found (unknown refl out no_slot no_word no_terminal) only
     where
@@ -171,7 +160,7 @@ module _ (portions : List PlainPortion) (form front rest : List PlainToken) (pla
       only o (wrong e is) = absurd (outside_not_wrong place out is)
       only o (twice e is binder earlier) = absurd (no_word binder)
 
-  pub least_wrong : (f : Found) → IsFoundAt code.BadBinder t f → (IsOutside place t → ⊥) → IsWrongAt portions form rest place t → IsLeast (AtPlace portions form front rest place t) (Some f)
+  pub least_wrong : (f : LentFault) → IsFoundAt code.BadBinder t f → (IsOutside place t → ⊥) → IsWrongAt portions form rest place t → IsLeast (AtPlace portions form front rest place t) (Some f)
   least_wrong f found inside bad = least_at_place code.BadBinder f found (wrong refl bad) only
     where
       only : (o : Code) → Has o → o ≡ code.BadBinder
@@ -193,7 +182,7 @@ pub less_or_same : (k n : ℕ) → k < n + 1 → (k < n) ⊎ (k ≡ n)
 less_or_same k n lt = grind (arith, lt)
 
 pub among_none : (portions : List PlainPortion) (form : List PlainToken) → IsLeast (AmongFirst portions form 0) None
-among_none portions form = least_none (AmongFirst portions form 0) (λ o s d x. omega (arith, x.near))
+among_none portions form = none_found at_token lent_words (AmongFirst portions form 0) (λ o s d x. omega (arith, x.near))
 
 at_same : (portions : List PlainPortion) (form front rest own more : List PlainToken) (place q : Place) (t s : PlainToken) (o : Code) (u : PlainToken) (d : List ℕ)
     → own ≡ front → s ≡ t → more ≡ rest → q ≡ place → AtPlace portions form own more q s o u d → AtPlace portions form front rest place t o u d
@@ -204,10 +193,10 @@ at_same portions form front rest own more place q t s o u d same_front same_toke
     (subst (λ f. AtPlace portions form f more q s o u d) same_front x)))
 
 -- one token more is looked at
-among_more : (portions : List PlainPortion) (form : List PlainToken) (n : ℕ) (front rest : List PlainToken) (place : Place) (t : PlainToken) (a b r : Option Found)
+among_more : (portions : List PlainPortion) (form : List PlainToken) (n : ℕ) (front rest : List PlainToken) (place : Place) (t : PlainToken) (a b r : Option LentFault)
     → form ≡ front ++ t ∷ rest → length front ≡ n → IsPlaceBehind portions front place → IsEarlierOf a b r
     → IsLeast (AmongFirst portions form n) a → IsLeast (AtPlace portions form front rest place t) b → IsLeast (AmongFirst portions form (n + 1)) r
-among_more portions form n front rest place t a b r split len at is all one = least_same (Either (AmongFirst portions form n) (AtPlace portions form front rest place t)) (AmongFirst portions form (n + 1)) r
+among_more portions form n front rest place t a b r split len at is all one = found_same at_token lent_words (Either (AmongFirst portions form n) (AtPlace portions form front rest place t)) (AmongFirst portions form (n + 1)) r
     (λ o s d x. elim x [
       | inl y ↦ record { front = y.front; rest = y.rest; place = y.place; split = y.split; is_place = y.is_place; near = omega (arith, y.near); fault = y.fault }
       | inr y ↦ record {
@@ -228,7 +217,7 @@ among_more portions form n front rest place t a b r split len at is all one = le
           inr (at_same portions form front rest x.front x.rest place x.place t s o s d same.0 same.1 same.2 where_is x.fault)
           )
     ])
-    (least_of_two (AmongFirst portions form n) (AtPlace portions form front rest place t) a b r is all one)
+    (found_of_two at_token lent_words (AmongFirst portions form n) (AtPlace portions form front rest place t) a b r is all one)
 
 at_drop : (xs : List Token) (i : ℕ) (d : Token) → i < length xs → drop i xs ≡ get_or xs i d ∷ drop (i + 1) xs
 at_drop xs i d lt = let e : suc i ≡ i + 1 = omega arith in drop-cons xs i d lt ∙ ap (λ n. get_or xs i d ∷ drop n xs) e
@@ -237,7 +226,7 @@ pub form_split : (xs : List Token) (i : ℕ) (d : Token) → i < length xs → p
 form_split xs i d lt =
     ap plain_form (sym (take-append-drop i xs)) ∙ map-append token_view (take i xs) (drop i xs) ∙ ap (λ ts. plain_form (take i xs) ++ plain_form ts) (at_drop xs i d lt)
 
-pub form_more : (portions : List PlainPortion) (xs : List Token) (i : ℕ) (d : Token) (place : Place) (a b r : Option Found) → i < length xs
+pub form_more : (portions : List PlainPortion) (xs : List Token) (i : ℕ) (d : Token) (place : Place) (a b r : Option LentFault) → i < length xs
     → IsPlaceBehind portions (plain_form (take i xs)) place → IsEarlierOf a b r → IsLeast (AmongFirst portions (plain_form xs) i) a
     → IsLeast (AtPlace portions (plain_form xs) (plain_form (take i xs)) (plain_form (drop (i + 1) xs)) place (token_view (get_or xs i d))) b
     → IsLeast (AmongFirst portions (plain_form xs) (i + 1)) r
@@ -262,8 +251,8 @@ split_near form front t rest split =
     omega (arith, long)
 
 -- all tokens were looked at
-pub form_whole : (portions : List PlainPortion) (xs : List Token) (i : ℕ) (r : Option Found) → length xs ≤ i → IsLeast (AmongFirst portions (plain_form xs) i) r → IsLeast (TokensOf portions (plain_form xs)) r
-form_whole portions xs i r le all = least_same (AmongFirst portions (plain_form xs) i) (TokensOf portions (plain_form xs)) r
+pub form_whole : (portions : List PlainPortion) (xs : List Token) (i : ℕ) (r : Option LentFault) → length xs ≤ i → IsLeast (AmongFirst portions (plain_form xs) i) r → IsLeast (TokensOf portions (plain_form xs)) r
+form_whole portions xs i r le all = found_same at_token lent_words (AmongFirst portions (plain_form xs) i) (TokensOf portions (plain_form xs)) r
     (λ o s d x. record { front = x.front; rest = x.rest; place = x.place; split = x.split; is_place = x.is_place; near = split_near (plain_form xs) x.front s x.rest x.split; fault = x.fault })
     (λ o s d x.
     let long : length (plain_form xs) ≡ length xs = length-map xs token_view in
@@ -295,7 +284,7 @@ pub never_wrong : (portions : List PlainPortion) (form rest : List PlainToken) (
 never_wrong portions form rest t = ((λ h. (let never : false ≡ true = h in cc)), (λ w. absurd w))
 
 -- the same, where what is behind the token is given
-pub form_more_rest : (portions : List PlainPortion) (xs : List Token) (i : ℕ) (d : Token) (place : Place) (rest : List Token) (a b r : Option Found) → i < length xs → rest ≡ drop (i + 1) xs
+pub form_more_rest : (portions : List PlainPortion) (xs : List Token) (i : ℕ) (d : Token) (place : Place) (rest : List Token) (a b r : Option LentFault) → i < length xs → rest ≡ drop (i + 1) xs
     → IsPlaceBehind portions (plain_form (take i xs)) place → IsEarlierOf a b r → IsLeast (AmongFirst portions (plain_form xs) i) a
     → IsLeast (AtPlace portions (plain_form xs) (plain_form (take i xs)) (plain_form rest) place (token_view (get_or xs i d))) b
     → IsLeast (AmongFirst portions (plain_form xs) (i + 1)) r

@@ -26,7 +26,7 @@ pub mod FaultLawsFiles
 pub mod FaultLawsNames
 pub mod FaultLawsContexts
 pub mod FaultLaws
-pub mod FaultLeast
+pub mod Tests
 pub mod NameIndexes
 pub mod FaultDeclared
 pub mod FaultSeen

@@ -1,9 +1,10 @@
 -- The faults of the grammar of a file: which code stands at which token, with which detail. To be held against 'Grammar' and 'Faults of
 -- grammars' of docs/notation.md. A kind is 0 a word, 2 punctuation; of punctuation 91 and 93 are brackets, 44 is the comma.
-use Rattle.std.specs.Prelude.{◌≡◌, ◌≢◌, ◌⊎◌, ◌<◌, ◌≤◌, ℕ, List, [], ◌∷◌, ◌++◌, map, Some}
+use Rattle.std.specs.Prelude.{◌≡◌, ◌≢◌, ◌⊎◌, ℕ, List, [], ◌∷◌, ◌++◌, map, Some}
 use Rattle.std.specs.List.{AllByRecursion, Contains}
 use Rattle.binding_terms.specs.Numbered.{AnyByRecursion}
 use Rattle.rule_schemes.specs.Reading.{IsSpelling}
+use Rattle.sy_base.specs.FirstFault.{IsFaultless, at_token, IsFirstFault as IsFirstOf}
 use Rattle.sy_base.specs.Tokens.{PlainToken}
 use Rattle.sy_base.specs.declared.fault.Code.{Code}
 use Rattle.sy_base.specs.declared.fault.Code.TheVariants as code
@@ -237,28 +238,8 @@ module _ (portions : List PlainPortion) where
 
   -- the grammar has no fault
   abbrev pub HasNoFault : Type 0
-  HasNoFault = (found : Code) (token : PlainToken) (detail : List ℕ) → IsFault found token detail → ⊥
-
--- the order of the codes on one line
-abbrev pub rank : Code → ℕ
-rank code.Duplicate = 0
-rank code.EmptyProduction = 1
-rank code.SingleCategory = 2
-rank code.UnknownWord = 3
-rank code.BadBinder = 4
-rank code.BinderTwice = 5
-rank code.BadContext = 6
-rank _ = 7
-
--- a fault is told before another, or stands where that one does: by line, then by the order of the codes, then by place
-abbrev pub IsToldFirst : (found : Code) → PlainToken → (other : Code) → PlainToken → Type 0
-IsToldFirst found token other at =
-    (token.line < at.line)
-    ⊎ ((token.line ≡ at.line) × ((rank found < rank other) ⊎ ((rank found ≡ rank other) × (token.from ≤ at.from))))
+  HasNoFault = IsFaultless IsFault
 
 -- the first fault of the grammar, with its line
-pub record IsFirstFault (portions : List PlainPortion) (line : ℕ) (found : Code) (detail : List ℕ) : Type 0 where
-  pub token : PlainToken
-  pub line_is : line ≡ token.line
-  pub stands : IsFault portions found token detail
-  pub first : (other : Code) (at : PlainToken) (words : List ℕ) → IsFault portions other at words → IsToldFirst found token other at
+abbrev pub IsFirstFault : List PlainPortion → (line : ℕ) → Code → (detail : List ℕ) → Type 0
+IsFirstFault portions line found detail = IsFirstOf at_token (IsFault portions) line found detail

@@ -1,20 +1,22 @@
--- What functions inside the crate find on the way to the first fault: the least of a family of faults.
+-- What functions inside the crate find on the way to the first fault: the first of a family of faults that stand at tokens.
 use Rattle.std.specs.Prelude.{◌≡◌, ◌↔◌, ◌⊎◌, ◌++◌, ℕ, List, [], ◌∷◌, map, flat_map, Option, None, Some, MatchOption}
 use Rattle.binding_terms.specs.Numbered.{AnyByRecursion}
+use Rattle.sy_base.specs.FirstFault.{Either, Faults, IsFirstFound, OfCode, OfSome, at_token, IsFoundAt as IsThere}
 use Rattle.sy_base.specs.Tokens.{PlainToken}
 use Rattle.sy_base.specs.declared.fault.Code.{Code}
 use Rattle.sy_base.specs.declared.fault.Code.TheVariants as code
+use Rattle.sy_base.specs.declared.first_fault.Found.{Found}
+use denote.Ref.{Bor}
 use Rattle.proof_lexer.specs.View.{token_view}
 use Rattle.outline_reader.specs.Plain.{PlainPortion, judgment_of, theorem_of, plain_form}
 use Rattle.user_grammar.specs.File.{WrittenCategory, categories, listed}
 use Rattle.user_grammar.specs.Made.{plains}
-use Rattle.user_grammar.specs.Fault.{IsToldFirst, Sort, a_terminal, a_category, a_variable, Declared, declared_as, IsSpelledAs, AreVariables, IsOneSlot, AssumesHere, category_texts}
+use Rattle.user_grammar.specs.Fault.{Sort, a_terminal, a_category, a_variable, Declared, declared_as, IsSpelledAs, AreVariables, IsOneSlot, AssumesHere, category_texts}
 use Rattle.user_grammar.specs.Names.{IsAmong}
 use Rattle.user_grammar.specs.Indexed.{HaveSame, names_in}
 use Rattle.user_grammar.specs.Production.{IsMark}
 use Rattle.user_grammar.specs.declared.fault_form.Expected.{Expected}
 use Rattle.user_grammar.specs.declared.fault_form.Expected.TheVariants as expected
-use Rattle.user_grammar.specs.declared.fault_found.Found.{Found}
 use Rattle.user_grammar.specs.declared.fault_lists.Written.{Written}
 use Rattle.user_grammar.specs.declared.fault_lists.Lists.{Lists}
 use Rattle.user_grammar.specs.declared.fault_names.Names.{Names}
@@ -23,42 +25,21 @@ use Rattle.user_grammar.specs.declared.fault_declared.Seen.{Seen}
 use Rattle.user_grammar.specs.declared.fault_declared.Means.{Means}
 use Rattle.user_grammar.specs.declared.fault_declared.Means.TheVariants as means
 
--- a fault of the family that is told before each other one
-pub record IsLeastAt (faults : Code → PlainToken → List ℕ → Type 0) (found : Code) (token : PlainToken) (detail : List ℕ) : Type 0 where
-  pub stands : faults found token detail
-  pub first : (other : Code) (at : PlainToken) (words : List ℕ) → faults other at words → IsToldFirst found token other at
+-- the words of a detail that is lent
+abbrev pub lent_words : Bor (List ℕ) → List ℕ
+lent_words text = text.now
 
--- the least fault of the family, or none where it has none
-pub record IsLeast (faults : Code → PlainToken → List ℕ → Type 0) (found : Option Found) : Type 0 where
-  pub least : MatchOption found ((other : Code) (at : PlainToken) (words : List ℕ) → faults other at words → ⊥)
-      (λ f. IsLeastAt faults f.code (token_view f.token.now) f.detail.now)
+-- a fault that was found, with a detail that is lent
+abbrev pub LentFault : Type 0
+LentFault = Found (Bor (List ℕ))
+
+-- the first fault of the family, which stands at tokens, or none where it has none
+abbrev pub IsLeast : Faults PlainToken → Option LentFault → Type 0
+IsLeast faults found = IsFirstFound at_token lent_words faults found
 
 -- the code was found at the token, with its text
-pub record IsFoundAt (is : Code) (token : PlainToken) (found : Found) : Type 0 where
-  pub code_is : found.code ≡ is
-  pub token_is : token_view found.token.now ≡ token
-  pub detail_is : found.detail.now ≡ token.text
-
--- the first is told before the second
-pub record IsBefore (found other : Found) : Type 0 where
-  pub told : IsToldFirst found.code (token_view found.token.now) other.code (token_view other.token.now)
-
--- the earlier of two, where there are two
-abbrev pub IsOneOf : Found → Found → Found → Type 0
-IsOneOf found other result = ((result ≡ found) × IsBefore found other) ⊎ ((result ≡ other) × IsBefore other found)
-
-abbrev pub IsEarlierOf : Option Found → Option Found → Option Found → Type 0
-IsEarlierOf None other result = result ≡ other
-IsEarlierOf (Some found) None result = result ≡ Some found
-IsEarlierOf (Some found) (Some other) result = MatchOption result ⊥ (IsOneOf found other)
-
--- the faults of some members of a list
-pub record OfSome {A : Type 0} (faults : A → Code → PlainToken → List ℕ → Type 0) (members : List A) (found : Code) (token : PlainToken) (detail : List ℕ) : Type 0 where
-  pub some : AnyByRecursion (λ member. faults member found token detail) members
-
--- the faults of two families
-abbrev pub Either : (one other : Code → PlainToken → List ℕ → Type 0) → Code → PlainToken → List ℕ → Type 0
-Either one other found token detail = one found token detail ⊎ other found token detail
+abbrev pub IsFoundAt : Code → PlainToken → LentFault → Type 0
+IsFoundAt is token found = IsThere at_token lent_words is token token.text found
 
 -- a category as the portions lend it
 abbrev pub written_view : Written → WrittenCategory
@@ -76,7 +57,7 @@ pub record AreLists (lists : Lists) : Type 0 where
 
 -- one code stands at a token that is so, with the token's text
 abbrev pub AtToken : Code → (PlainToken → Type 0) → Code → PlainToken → List ℕ → Type 0
-AtToken is IsAt found token detail = (found ≡ is) × (detail ≡ token.text) × IsAt token
+AtToken is IsAt found token detail = OfCode is (λ one. one.text) IsAt found token detail
 
 -- the forms of all categories
 abbrev pub all_forms : List WrittenCategory → List (List PlainToken)

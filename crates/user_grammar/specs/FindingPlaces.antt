@@ -7,11 +7,11 @@ use Rattle.user_grammar.specs.Names.{IsAmong}
 use Rattle.user_grammar.specs.Production.{IsMark, IsTerminal}
 use Rattle.user_grammar.specs.Fault.{Place, outside, behind_slot, before_word, behind_word, IsPlaceBehind, IsOutside, IsBinderWord, IsBinderOf, IsSlotWord, IsContextCategory, IsDuplicate}
 use Rattle.user_grammar.specs.File.{WrittenCategory, assumed, categories, listed}
-use Rattle.user_grammar.specs.Finding.{AtToken, Either, OfSome, ShortOf, UnknownContexts}
+use Rattle.user_grammar.specs.Finding.{AtToken, LentFault, ShortOf, UnknownContexts, lent_words}
+use Rattle.sy_base.specs.FirstFault.{Either, OfSome, Says}
 use Rattle.sy_base.specs.declared.fault.Code.{Code}
 use Rattle.sy_base.specs.declared.fault.Code.TheVariants as code
 use Rattle.sy_base.specs.declared.fault.Fault.{Fault}
-use Rattle.user_grammar.specs.declared.fault_found.Found.{Found}
 use Rattle.user_grammar.specs.declared.fault_place.Step.{Step}
 use Rattle.user_grammar.specs.declared.fault_place.Step.TheVariants as step
 use Rattle.user_grammar.specs.declared.fault_place.Walk.{Walk}
@@ -85,6 +85,6 @@ abbrev pub BadContextOf : List PlainPortion → WrittenCategory → Code → Pla
 BadContextOf portions written found token detail = (found ≡ code.BadContext) × (detail ≡ written.name.text) × IsBadContext portions written token
 
 -- what is told of a fault that was found
-abbrev pub IsTold : Option Found → Option Fault → Type 0
+abbrev pub IsTold : Option LentFault → Option Fault → Type 0
 IsTold None fault = fault ≡ None
-IsTold (Some found) fault = MatchOption fault ⊥ (λ f. (f.line ≡ found.token.now.line) × (f.code ≡ found.code) × (f.detail ≡ found.detail.now))
+IsTold (Some found) fault = MatchOption fault ⊥ (λ f. Says f found.place.line found.code (lent_words found.detail))

@@ -10,17 +10,17 @@ ghost use Rattle.user_grammar.specs.FindingPlaces.{ButContexts, IsTold};
 use crate::fault_assumed::first_unknown_context;
 use crate::fault_declared::first_duplicate;
 use crate::fault_form::first_short;
-use crate::fault_found::{Found, earlier};
+use crate::fault_found::Found;
 use crate::fault_front::first_bad_context;
 use crate::fault_lists::{Lists, Written, lent_categories};
 use crate::fault_names::{Names, all_variables};
 use crate::fault_tokens::first_at_token;
 use crate::name_index::NameIndex;
 use crate::name_lists::{category_index, listed_index};
-use binding_terms::{NoMemory, Text};
+use binding_terms::NoMemory;
 use outline_reader::Portion;
 use std::alloc::Global;
-use sy_base::Fault;
+use sy_base::{Fault, earlier, fault_of};
 
 /// The fault with its line and its detail.
 fn told(alloc: Global, found: Option<Found<'_>>) -> Result<Option<Fault>, NoMemory>
@@ -29,11 +29,7 @@ fn told(alloc: Global, found: Option<Found<'_>>) -> Result<Option<Fault>, NoMemo
     let Some(one) = found else {
         return Ok(None);
     };
-    Ok(Some(Fault {
-        line: one.token.line,
-        code: one.code,
-        detail: Text::of(alloc, one.detail.as_bytes())?,
-    }))
+    Ok(Some(fault_of(alloc, one.place.line, one.code, one.detail.as_bytes())?))
 }
 
 /// The first fault but those of context categories.

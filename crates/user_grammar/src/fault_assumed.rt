@@ -5,13 +5,14 @@ ghost use Rattle.outline_reader.specs.Plain.{plain_portion};
 ghost use Rattle.outline_reader.specs.Views.{portion_view};
 ghost use Rattle.user_grammar.specs.Fault.{category_texts};
 ghost use Rattle.user_grammar.specs.Names.{IsAmong};
-ghost use Rattle.user_grammar.specs.Finding.{AreLists, IsLeast, OfSome, UnknownContexts, assumed_token, portions_of};
+ghost use Rattle.sy_base.specs.FirstFault.{OfSome};
+ghost use Rattle.user_grammar.specs.Finding.{AreLists, IsLeast, UnknownContexts, assumed_token, portions_of};
 
-use crate::fault_found::{Found, at_token, earlier};
+use crate::fault_found::{Found, at_token};
 use crate::fault_lists::Lists;
 use crate::name_index::has_name;
 use outline_reader::{Name, Portion};
-use sy_base::Code;
+use sy_base::{Code, earlier};
 
 /// The name that a portion has behind `assumes`.
 fn assumed_of<'a>(portion: &'a Portion<'a>) -> Option<Name<'a>>

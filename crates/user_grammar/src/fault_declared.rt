@@ -8,6 +8,7 @@ ghost use Rattle.outline_reader.specs.Views.{portion_view};
 ghost use Rattle.user_grammar.specs.File.{categories};
 ghost use Rattle.user_grammar.specs.Fault.{CategoryDeclares, Declared, DeclareAll, DeclaresHere, IsDuplicate, IsSpelledAs, a_terminal, a_variable, declared_as};
 ghost use Rattle.user_grammar.specs.declared.fault_declared.Means.TheVariants.{Terminal};
+ghost use Rattle.sy_base.specs.FirstFault.{OfSome};
 ghost use Rattle.user_grammar.specs.Finding.{
   AreLists,
   AtToken,
@@ -17,13 +18,12 @@ ghost use Rattle.user_grammar.specs.Finding.{
   IsLeast,
   IsOneToken,
   IsSecond,
-  OfSome,
   declaration_view,
   portions_of,
   written_view,
 };
 
-use crate::fault_found::{Found, at_token, earlier};
+use crate::fault_found::{Found, at_token};
 use crate::fault_lists::Lists;
 use crate::fault_names::variables;
 use crate::name_index::{NameIndex, add_name, has_name, no_names};
@@ -32,7 +32,7 @@ use outline_reader::{Form, Name, Portion};
 use proof_lexer::Token;
 use rule_schemes::{is_spelling, same_text};
 use std::alloc::Global;
-use sy_base::Code;
+use sy_base::{Code, earlier};
 
 /// How a word is declared.
 #[derive(Clone, Copy)]

@@ -7,6 +7,7 @@ ghost use Rattle.outline_reader.specs.Plain.{plain_form};
 ghost use Rattle.user_grammar.specs.File.{categories};
 ghost use Rattle.user_grammar.specs.Production.{IsMark};
 ghost use Rattle.user_grammar.specs.Fault.{IsOneSlot};
+ghost use Rattle.sy_base.specs.FirstFault.{OfSome};
 ghost use Rattle.user_grammar.specs.Finding.{
   AreLists,
   AtToken,
@@ -14,7 +15,6 @@ ghost use Rattle.user_grammar.specs.Finding.{
   GoesOnAs,
   IsEmptyOf,
   IsLeast,
-  OfSome,
   ShortOf,
   SingleOf,
   portions_of,
@@ -22,13 +22,13 @@ ghost use Rattle.user_grammar.specs.Finding.{
 };
 ghost use Rattle.user_grammar.specs.declared.fault_form.Expected.TheVariants.{Comma, Name, Opening};
 
-use crate::fault_found::{Found, at_token, earlier};
+use crate::fault_found::{Found, at_token, named_at};
 use crate::fault_lists::{Lists, Written};
 use crate::fault_names::is_slot_word;
 use crate::tokens::is_word;
 use outline_reader::Form;
 use proof_lexer::{Kind, Token};
-use sy_base::Code;
+use sy_base::{Code, earlier};
 
 fn has_empty(forms: &[Form<'_>]) -> bool
     ensures { IsTrue result ↔ AnyByRecursion (λ form. form ≡ []) (map plain_form (map (λ form. form.now) forms.now)) }
@@ -163,11 +163,7 @@ fn single<'a>(lists: &Lists<'_>, name: &'a Token<'a>, form: Form<'a>) -> Option<
     if !is_one_slot(lists, token, rest) {
         return None;
     }
-    Some(Found {
-        code: Code::SingleCategory,
-        token,
-        detail: name.text,
-    })
+    Some(named_at(Code::SingleCategory, token, name.text))
 }
 
 fn first_single<'a>(lists: &Lists<'_>, written: &Written<'a>) -> Option<Found<'a>>

@@ -6,13 +6,14 @@ ghost use Rattle.proof_lexer.specs.View.{token_view};
 ghost use Rattle.outline_reader.specs.Plain.{PlainPortion, plain_form};
 ghost use Rattle.user_grammar.specs.Fault.{IsContextCategory, IsOnlyInFront};
 ghost use Rattle.user_grammar.specs.File.{assumed, categories};
-ghost use Rattle.user_grammar.specs.Finding.{AreLists, AreNames, IsLeast, OfSome, portions_of, written_view};
+ghost use Rattle.sy_base.specs.FirstFault.{OfSome};
+ghost use Rattle.user_grammar.specs.Finding.{AreLists, AreNames, IsLeast, portions_of, written_view};
 ghost use Rattle.user_grammar.specs.Indexed.{HaveSame, names_in};
 ghost use Rattle.user_grammar.specs.FindingContexts.{AllPoints, IsInFront, KeepsFront};
 ghost use Rattle.user_grammar.specs.FindingPlaces.{BadContextOf, walk_view};
 
 use crate::fault_context::{are_entries, is_word_of, none_declares, one_empty};
-use crate::fault_found::{Found, earlier};
+use crate::fault_found::{Found, named_at};
 use crate::fault_lists::{Lists, Written};
 use crate::fault_names::Names;
 use crate::fault_place::{Walk, is_outside, pass, start};
@@ -23,7 +24,7 @@ use outline_reader::Form;
 use proof_lexer::Token;
 use rule_schemes::same_text;
 use std::alloc::Global;
-use sy_base::Code;
+use sy_base::{Code, earlier};
 
 /// Whether two categories have one name.
 fn is_namesake(written: &Written<'_>, other: &Written<'_>) -> bool
@@ -166,11 +167,7 @@ fn bad_context<'a>(
     if keeps {
         return Ok(None);
     }
-    Ok(Some(Found {
-        code: Code::BadContext,
-        token: written.mark,
-        detail: written.name.text,
-    }))
+    Ok(Some(named_at(Code::BadContext, written.mark, written.name.text)))
 }
 
 /// The first category that is assumed and breaks the rule.

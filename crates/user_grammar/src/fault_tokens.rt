@@ -8,12 +8,13 @@ ghost use Rattle.user_grammar.specs.File.{categories};
 ghost use Rattle.user_grammar.specs.Names.{IsAmong};
 ghost use Rattle.user_grammar.specs.Production.{IsMark};
 ghost use Rattle.user_grammar.specs.Fault.{IsBinderWord, IsOutside, Place};
-ghost use Rattle.user_grammar.specs.Finding.{AreNames, IsLeast, OfSome, portions_of, written_view};
+ghost use Rattle.sy_base.specs.FirstFault.{OfSome};
+ghost use Rattle.user_grammar.specs.Finding.{AreNames, IsLeast, portions_of, written_view};
 ghost use Rattle.user_grammar.specs.Indexed.{names_in};
 ghost use Rattle.user_grammar.specs.FindingPlaces.{AreBinders, AtPlace, IsWrongAt, TokensOf, walk_view};
 
 use crate::fault_form::{is_closing, is_comma, is_opening};
-use crate::fault_found::{Found, at_token, earlier};
+use crate::fault_found::{Found, at_token};
 use crate::fault_lists::Written;
 use crate::fault_names::{Names, is_binder_word, is_slot_word, may_stand};
 use crate::fault_place::{Step, Walk, binders, is_outside, note_binder, pass, start};
@@ -23,7 +24,7 @@ use binding_terms::NoMemory;
 use outline_reader::Form;
 use proof_lexer::Token;
 use std::alloc::Global;
-use sy_base::Code;
+use sy_base::{Code, earlier};
 
 fn is_named(named: &[&[u8]], word: &[u8]) -> bool
     ensures { IsTrue result ↔ IsAmong (reverse (map (λ text. text.now) named.now)) word.now }

@@ -4,7 +4,7 @@ use Rattle.user_grammar.specs.Fault.{IsPlaceBehind, at_start}
 use Rattle.user_grammar.specs.Finding.{portions_of}
 use Rattle.user_grammar.specs.FindingPlaces.{walk_view}
 use Rattle.user_grammar.specs.FindingContexts.{OpensNone}
-use Rattle.user_grammar.proofs.FaultLeast.{refused}
+use Rattle.user_grammar.proofs.Tests.{refused}
 use Rattle.user_grammar.proofs.FaultTokens.{place_more}
 use Rattle.user_grammar.proofs.FaultPoints.{no_points, form_points_more, brackets_refused, brackets_none}
 use Rattle.user_grammar.proofs.fault_context.has_no_brackets.Goals as goal

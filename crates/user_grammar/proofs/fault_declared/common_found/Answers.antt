@@ -1,6 +1,6 @@
 use Rattle.std.proofs.Common.{map}
 use Rattle.user_grammar.specs.Finding.{declaration_view}
-use Rattle.user_grammar.proofs.FaultLeast.{refused}
+use Rattle.user_grammar.proofs.Tests.{refused}
 use Rattle.user_grammar.proofs.FaultDeclared.{common_more, common_same}
 use Rattle.user_grammar.proofs.fault_declared.common_found.Goals as goal
 

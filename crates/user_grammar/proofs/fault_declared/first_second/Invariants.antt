@@ -1,6 +1,7 @@
 use Rattle.std.proofs.Common.{map, take}
 use Rattle.sy_base.specs.declared.fault.Code.TheVariants.{Duplicate}
-use Rattle.user_grammar.specs.Finding.{AtToken, IsSecond, IsLeast, OfSome, portions_of, written_view}
+use Rattle.sy_base.specs.FirstFault.{OfSome}
+use Rattle.user_grammar.specs.Finding.{AtToken, IsSecond, IsLeast, portions_of, written_view}
 use Rattle.user_grammar.proofs.fault_declared.first_second.Given as goal
 
 abbrev pub invariant-loop-written : goal.invariant-loop-written

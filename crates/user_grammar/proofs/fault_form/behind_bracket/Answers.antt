@@ -1,5 +1,5 @@
 use Rattle.proof_lexer.specs.View.{token_view}
-use Rattle.user_grammar.proofs.FaultLeast.{refused}
+use Rattle.user_grammar.proofs.Tests.{refused}
 use Rattle.user_grammar.proofs.FaultForm.{bracket_goes_on}
 use Rattle.user_grammar.proofs.fault_form.behind_bracket.Goals as goal
 

@@ -1,5 +1,6 @@
 use Rattle.std.proofs.Common.{map, take}
-use Rattle.user_grammar.specs.Finding.{IsLeast, OfSome, ShortOf, portions_of, written_view}
+use Rattle.sy_base.specs.FirstFault.{OfSome}
+use Rattle.user_grammar.specs.Finding.{IsLeast, ShortOf, portions_of, written_view}
 use Rattle.user_grammar.proofs.fault_form.first_short.Given as goal
 
 abbrev pub invariant-loop-written : goal.invariant-loop-written

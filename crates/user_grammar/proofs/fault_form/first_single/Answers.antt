@@ -1,13 +1,14 @@
 use Rattle.std.proofs.Common.{map}
 use Rattle.outline_reader.specs.Plain.{plain_form}
-use Rattle.user_grammar.specs.Finding.{IsLeast, OfSome, SingleOf, portions_of}
-use Rattle.user_grammar.proofs.FaultLeast.{least_more_seen}
+use Rattle.sy_base.specs.FirstFault.{OfSome, at_token}
+use Rattle.user_grammar.specs.Finding.{IsLeast, SingleOf, portions_of, lent_words}
+use Rattle.sy_base.proofs.FirstLemmas.{found_more_seen}
 use Rattle.user_grammar.proofs.fault_form.first_single.Goals as goal
 use Rattle.binding_terms.proofs.Lists.{whole_taken}
 
 pub loop-form-preserved : goal.loop-form-preserved
 loop-form-preserved c =
-    least_more_seen plain_form (λ form. form.now) (SingleOf (portions_of c.args.lists.now) c.args.written.now.name.now.text.now) c.args.written.now.forms.now c.loop-form.form-index _
+    found_more_seen at_token lent_words (SingleOf (portions_of c.args.lists.now) c.args.written.now.name.now.text.now) plain_form (λ form. form.now) c.args.written.now.forms.now c.loop-form.form-index _
     c.loop-form.found c.single.result c.earlier-found.result c.loop-form-test.true c.earlier-found.ensures c.loop-form.invariant c.single.ensures
 
 pub returns : goal.returns

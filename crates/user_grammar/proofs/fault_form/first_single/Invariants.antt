@@ -1,6 +1,7 @@
 use Rattle.std.proofs.Common.{map, take}
 use Rattle.outline_reader.specs.Plain.{plain_form}
-use Rattle.user_grammar.specs.Finding.{IsLeast, OfSome, SingleOf, portions_of}
+use Rattle.sy_base.specs.FirstFault.{OfSome}
+use Rattle.user_grammar.specs.Finding.{IsLeast, SingleOf, portions_of}
 use Rattle.user_grammar.proofs.fault_form.first_single.Given as goal
 
 abbrev pub invariant-loop-form : goal.invariant-loop-form

@@ -1,13 +1,14 @@
 use Rattle.std.proofs.Common.{map, subst}
-use Rattle.user_grammar.specs.Finding.{IsLeast, OfSome, portions_of, written_view}
+use Rattle.sy_base.specs.FirstFault.{OfSome, at_token}
+use Rattle.user_grammar.specs.Finding.{IsLeast, portions_of, written_view, lent_words}
 use Rattle.user_grammar.specs.FindingPlaces.{BadContextOf}
-use Rattle.user_grammar.proofs.FaultLeast.{least_more}
+use Rattle.sy_base.proofs.FirstLemmas.{found_more}
 use Rattle.user_grammar.proofs.fault_front.first_bad_context.Goals as goal
 use Rattle.binding_terms.proofs.Lists.{whole_taken}
 
 pub loop-written-preserved : goal.loop-written-preserved
 loop-written-preserved c =
-    least_more written_view (BadContextOf (portions_of c.args.names.now.lists)) c.args.names.now.lists.categories.now c.loop-written.written-index _
+    found_more at_token lent_words (BadContextOf (portions_of c.args.names.now.lists)) written_view c.args.names.now.lists.categories.now c.loop-written.written-index _
     c.loop-written.found c.in_ok-one.one c.earlier-found.result c.loop-written-test.true c.earlier-found.ensures c.loop-written.invariant c.in_ok-one.ensures
 
 pub returns : goal.returns

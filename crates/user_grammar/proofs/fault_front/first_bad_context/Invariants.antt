@@ -1,5 +1,6 @@
 use Rattle.std.proofs.Common.{map, take}
-use Rattle.user_grammar.specs.Finding.{IsLeast, OfSome, portions_of, written_view}
+use Rattle.sy_base.specs.FirstFault.{OfSome}
+use Rattle.user_grammar.specs.Finding.{IsLeast, portions_of, written_view}
 use Rattle.user_grammar.specs.FindingPlaces.{BadContextOf}
 use Rattle.user_grammar.proofs.fault_front.first_bad_context.Given as goal
 

@@ -5,7 +5,7 @@ use Rattle.user_grammar.specs.Finding.{portions_of, written_view}
 use Rattle.user_grammar.specs.FindingPlaces.{walk_view}
 use Rattle.user_grammar.specs.FindingContexts.{IsInFront}
 use Rattle.user_grammar.proofs.FaultFronts.{kept_of_form, not_kept, front_length}
-use Rattle.user_grammar.proofs.FaultLeast.{refused}
+use Rattle.user_grammar.proofs.Tests.{refused}
 use Rattle.user_grammar.proofs.FaultTokens.{place_more}
 use Rattle.user_grammar.proofs.FaultPoints.{no_points, form_points_more}
 use Rattle.user_grammar.proofs.fault_front.form_keeps_front.Goals as goal

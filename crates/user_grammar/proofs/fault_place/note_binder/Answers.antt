@@ -3,7 +3,7 @@ use Rattle.proof_lexer.specs.View.{token_view}
 use Rattle.user_grammar.specs.Finding.{portions_of}
 use Rattle.user_grammar.specs.FindingPlaces.{walk_view}
 use Rattle.user_grammar.specs.Indexed.{IsAdded, names_in}
-use Rattle.user_grammar.proofs.FaultLeast.{refused}
+use Rattle.user_grammar.proofs.Tests.{refused}
 use Rattle.user_grammar.proofs.FaultTokens.{no_binder_more, one_binder_more}
 use Rattle.user_grammar.proofs.NameIndexes.{added_among}
 use Rattle.user_grammar.proofs.fault_place.note_binder.Goals as goal

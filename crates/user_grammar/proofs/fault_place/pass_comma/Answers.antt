@@ -3,7 +3,7 @@ use Rattle.proof_lexer.specs.View.{token_view}
 use Rattle.user_grammar.specs.Fault.{Follows, behind_slot, before_word, closes_behind, separator}
 use Rattle.user_grammar.specs.Finding.{portions_of}
 use Rattle.user_grammar.specs.FindingPlaces.{step_view}
-use Rattle.user_grammar.proofs.FaultLeast.{refused}
+use Rattle.user_grammar.proofs.Tests.{refused}
 use Rattle.user_grammar.proofs.fault_place.pass_comma.Goals as goal
 
 pub returns-then-is_closing : goal.returns-then-is_closing

@@ -3,7 +3,7 @@ use Rattle.proof_lexer.specs.View.{token_view}
 use Rattle.user_grammar.specs.Fault.{Follows, behind_slot, behind_word, closes, in_brackets}
 use Rattle.user_grammar.specs.Finding.{portions_of}
 use Rattle.user_grammar.specs.FindingPlaces.{step_view, walk_view}
-use Rattle.user_grammar.proofs.FaultLeast.{refused}
+use Rattle.user_grammar.proofs.Tests.{refused}
 use Rattle.user_grammar.proofs.FaultTokens.{pushed}
 use Rattle.user_grammar.proofs.fault_place.pass_name.Goals as goal
 

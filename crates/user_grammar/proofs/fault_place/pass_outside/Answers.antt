@@ -3,7 +3,7 @@ use Rattle.proof_lexer.specs.View.{token_view}
 use Rattle.user_grammar.specs.Fault.{Follows, behind_slot, slot, item}
 use Rattle.user_grammar.specs.Finding.{portions_of}
 use Rattle.user_grammar.specs.FindingPlaces.{walk_view}
-use Rattle.user_grammar.proofs.FaultLeast.{refused}
+use Rattle.user_grammar.proofs.Tests.{refused}
 use Rattle.user_grammar.proofs.FaultTokens.{emptied}
 use Rattle.user_grammar.proofs.fault_place.pass_outside.Goals as goal
 

@@ -1,14 +1,15 @@
 use Rattle.std.proofs.Common.{map}
 use Rattle.outline_reader.specs.Plain.{plain_form}
-use Rattle.user_grammar.specs.Finding.{IsLeast, OfSome, portions_of}
+use Rattle.sy_base.specs.FirstFault.{OfSome, at_token}
+use Rattle.user_grammar.specs.Finding.{IsLeast, portions_of, lent_words}
 use Rattle.user_grammar.specs.FindingPlaces.{TokensOf}
-use Rattle.user_grammar.proofs.FaultLeast.{least_more_seen}
+use Rattle.sy_base.proofs.FirstLemmas.{found_more_seen}
 use Rattle.user_grammar.proofs.fault_tokens.category_fault.Goals as goal
 use Rattle.binding_terms.proofs.Lists.{whole_taken}
 
 pub loop-form-preserved : goal.loop-form-preserved
 loop-form-preserved c =
-    least_more_seen plain_form (λ form. form.now) (TokensOf (portions_of c.args.names.now.lists)) c.args.written.now.forms.now c.loop-form.form-index _
+    found_more_seen at_token lent_words (TokensOf (portions_of c.args.names.now.lists)) plain_form (λ form. form.now) c.args.written.now.forms.now c.loop-form.form-index _
     c.loop-form.found c.in_ok-one.one c.earlier-found.result c.loop-form-test.true c.earlier-found.ensures c.loop-form.invariant c.in_ok-one.ensures
 
 pub returns : goal.returns

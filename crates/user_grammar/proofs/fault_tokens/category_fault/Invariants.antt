@@ -1,6 +1,7 @@
 use Rattle.std.proofs.Common.{map, take}
 use Rattle.outline_reader.specs.Plain.{plain_form}
-use Rattle.user_grammar.specs.Finding.{IsLeast, OfSome, portions_of}
+use Rattle.sy_base.specs.FirstFault.{OfSome}
+use Rattle.user_grammar.specs.Finding.{IsLeast, portions_of}
 use Rattle.user_grammar.specs.FindingPlaces.{TokensOf}
 use Rattle.user_grammar.proofs.fault_tokens.category_fault.Given as goal
 

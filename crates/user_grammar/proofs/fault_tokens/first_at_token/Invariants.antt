@@ -1,6 +1,7 @@
 use Rattle.std.proofs.Common.{map, take}
 use Rattle.user_grammar.specs.File.{WrittenCategory}
-use Rattle.user_grammar.specs.Finding.{IsLeast, OfSome, portions_of, written_view}
+use Rattle.sy_base.specs.FirstFault.{OfSome}
+use Rattle.user_grammar.specs.Finding.{IsLeast, portions_of, written_view}
 use Rattle.user_grammar.specs.FindingPlaces.{TokensOf}
 use Rattle.user_grammar.proofs.fault_tokens.first_at_token.Given as goal
 

@@ -1,6 +1,6 @@
 use Rattle.proof_lexer.specs.View.{token_view}
 use Rattle.user_grammar.specs.Finding.{portions_of}
-use Rattle.user_grammar.proofs.FaultLeast.{refused}
+use Rattle.user_grammar.proofs.Tests.{refused}
 use Rattle.user_grammar.proofs.FaultTokens.{none_slot, none_terminal, least_unknown}
 use Rattle.user_grammar.proofs.fault_tokens.outside_fault.Goals as goal
 

@@ -2,7 +2,7 @@ use Rattle.proof_lexer.specs.View.{token_view}
 use Rattle.outline_reader.specs.Plain.{plain_form}
 use Rattle.user_grammar.specs.Finding.{portions_of}
 use Rattle.user_grammar.specs.FindingPlaces.{walk_view}
-use Rattle.user_grammar.proofs.FaultLeast.{refused}
+use Rattle.user_grammar.proofs.Tests.{refused}
 use Rattle.user_grammar.proofs.FaultTokens.{least_wrong, none_wrong}
 use Rattle.user_grammar.proofs.fault_tokens.point_fault.Goals as goal
 

@@ -3,7 +3,7 @@ use Rattle.proof_lexer.specs.View.{token_view}
 use Rattle.user_grammar.specs.Finding.{portions_of}
 use Rattle.user_grammar.specs.Indexed.{names_in}
 use Rattle.user_grammar.specs.Names.{IsAmong}
-use Rattle.user_grammar.proofs.FaultLeast.{refused}
+use Rattle.user_grammar.proofs.Tests.{refused}
 use Rattle.user_grammar.proofs.FaultTokens.{least_twice, none_twice}
 use Rattle.user_grammar.proofs.fault_tokens.second_binder.Goals as goal
 
