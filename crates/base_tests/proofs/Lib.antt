@@ -1,1 +1,2 @@
 mod FittingLemmas
+mod PairLemmas

@@ -20,4 +20,6 @@ mod terms;
 #[cfg(test)]
 mod tokens;
 #[cfg(test)]
+mod unifying;
+#[cfg(test)]
 mod worked;

@@ -1,16 +1,15 @@
 -- What the end of a run says of the equations.
-use Rattle.std.proofs.Common.{◌≡◌, ◌⊎◌, ℕ, List, map, inl, inr, refl, ap, subst, sym, arith}
+use Rattle.std.proofs.Common.{◌≡◌, ℕ, List, inl, inr, refl, ap, subst, sym, arith}
 use Rattle.binding_terms.specs.Signature.{Signature, Fits}
 use Rattle.scheme_terms.specs.Forms.{Names, Substitution, Instance}
 use Rattle.scheme_terms.specs.Substituting.{composed}
 use Rattle.pattern_unify.specs.Equations.{SchemeEquation, AreToUnify}
-use Rattle.pattern_unify.specs.CommonInstance.{IsCommonInstance, IsCommonGroundInstance, HaveCommonInstance}
-use Rattle.pattern_unify.specs.State.{State, names_of, start}
-use Rattle.pattern_unify.specs.Run.{End, solved, clashed, stuck, Runs, is_solved, is_stuck, has_clash, turns, EndsStuck, IsWithinFragment}
+use Rattle.pattern_unify.specs.State.{State, start}
+use Rattle.pattern_unify.specs.Run.{End, solved, clashed, stuck, Runs, is_solved, is_stuck, has_clash, turns, IsWithinFragment}
 use Rattle.pattern_unify.specs.Laws.{IsState}
 use Rattle.pattern_unify.specs.CommonLaws.{IsOfState, IsGroundOfState}
 use Rattle.pattern_unify.specs.LeftNames.{left_names}
-use Rattle.pattern_unify.specs.Answers.{UnifyAnswer, unifier, no_unifier, outside, IsUnifyAnswer}
+use Rattle.pattern_unify.specs.Answers.{unifier, no_unifier, outside, IsUnifyAnswer}
 use Rattle.pattern_unify.proofs.RunFunction.{run_is_function}
 use Rattle.pattern_unify.proofs.Ending.{start_is_state}
 use Rattle.pattern_unify.proofs.StatesKept.{turn_keeps_state}
@@ -18,7 +17,7 @@ use Rattle.pattern_unify.proofs.TurnInstances.{turn_keeps_common_instances}
 use Rattle.pattern_unify.proofs.GroundTurns.{ground_instances_stay}
 use Rattle.pattern_unify.proofs.GroundClashing.{clash_has_none}
 use Rattle.pattern_unify.proofs.RunInstances.{start_has_common_instances, start_has_ground_instances}
-use Rattle.pattern_unify.proofs.SolvedRuns.{left_is_most_general}
+use Rattle.pattern_unify.proofs.SolvedRuns.{left_root, left_leads_to_every, left_is_most_general}
 
 abbrev kind : End → ℕ
 kind (solved st) = 0
@@ -45,7 +44,9 @@ pub solved_answer : (sig : Signature) (names : Names) (eqs : List SchemeEquation
     Runs sig (start names eqs) (solved st) → by ≡ composed st.so_far (left_names st) → IsUnifyAnswer sig names eqs (unifier by)
 solved_answer sig names eqs st by fits owed run same =
     subst (λ b. IsUnifyAnswer sig names eqs (unifier b)) (sym same) (record {
+      root = left_root sig names eqs st fits owed run;
       most_general = left_is_most_general sig names eqs st fits owed run;
+      every = left_leads_to_every sig names eqs st fits owed run;
       within = within sig names eqs (solved st) run (λ e. absurd (omega (arith, e)));
     })
 

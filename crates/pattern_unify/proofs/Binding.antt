@@ -1,24 +1,21 @@
 -- A metavariable that becomes a scheme over its parameters: the substitutions that make the two sides the same are those through this step.
-use Rattle.std.proofs.Common.{◌≡◌, ◌≢◌, ◌↔◌, ◌⊎◌, ℕ, zero, suc, ◌+◌, ◌-◌, ◌<◌, ◌≤◌, Bool, true, false, ◌==◌, nat_lt, if◌then◌else◌, List, [], ◌∷◌, ◌++◌, length, map, get_or, Option, Some, None, MatchOption, slice_get, unwrap_or, inl, inr, refl, ap, sym, ◌∙◌, subst, append-nil, arith}
-use Rattle.std.specs.List.{AllByRecursion, AllZip}
+use Rattle.std.proofs.Common.{◌≡◌, ℕ, zero, suc, ◌+◌, ◌-◌, ◌<◌, ◌≤◌, Bool, true, false, ◌==◌, nat_lt, if◌then◌else◌, List, [], ◌∷◌, length, map, get_or, slice_get, unwrap_or, inl, inr, refl, ap, sym, ◌∙◌, subst, arith}
+use Rattle.std.specs.List.{AllZip}
 use Rattle.std.proofs.lemmas.Bool.{cases_lt}
 use Rattle.std.proofs.lemmas.Bool.Decides.{nat_tests}
-use Rattle.std.proofs.lemmas.List.{length-map}
-use Rattle.std.proofs.lemmas.Option.{slice_get_within}
 use Rattle.binding_terms.specs.Signature.{Signature}
-use Rattle.binding_terms.proofs.Lists.{match_from, match_some, some_within}
-use Rattle.scheme_terms.specs.SchemeTree.{SchemeTree, meta, known, local, con, Values, no_values, value, values, Parts, no_parts, part, listed, filled, AreDistinctLocals, IsApart}
-use Rattle.scheme_terms.specs.Forms.{Names, Substitution, KnownVariable}
-use Rattle.scheme_terms.specs.SchemeScope.{IsScheme, AreValues, params_scope}
-use Rattle.scheme_terms.specs.Substituting.{applied, applied_values, argument_or_local, scheme_for, known_for, params, parameters, metas_from, knowns_from, composed, LocalsBelow, ValuesBelow, Suits, IsSubstitution, IsKnownValue}
+use Rattle.scheme_terms.specs.SchemeTree.{SchemeTree, meta, known, local, con, Values, no_values, value, values, listed, filled, AreDistinctLocals, IsApart}
+use Rattle.scheme_terms.specs.Forms.{Names, KnownVariable}
+use Rattle.scheme_terms.specs.SchemeScope.{IsScheme, params_scope}
+use Rattle.scheme_terms.specs.Substituting.{applied, argument_or_local, scheme_for, known_for, params, parameters, knowns_from, LocalsBelow, ValuesBelow}
 use Rattle.scheme_terms.specs.Demands.{numbers, parameter_of, variable_of, lowered}
 use Rattle.scheme_terms.specs.declared.scheme.MetaDecl.{MetaDecl}
-use Rattle.scheme_terms.proofs.AppliedSchemes.{applied_anywhere, applied_filled}
+use Rattle.scheme_terms.proofs.AppliedSchemes.{applied_filled}
 use Rattle.scheme_terms.proofs.Lowering.{arguments_rename, renaming, renaming_at, renaming_past, variable_at}
 use Rattle.scheme_terms.proofs.Makings.{applied_making, applied_locals, demand_is_value}
-use Rattle.scheme_terms.proofs.SchemeFacts.{length_params, scheme_below, scheme_suits}
+use Rattle.scheme_terms.proofs.SchemeFacts.{length_params, scheme_below}
 use Rattle.scheme_terms.proofs.SchemeSubstitutions.{filled_agree, filled_local}
-use Rattle.pattern_unify.specs.Patterns.{is_one_local, parameter_at, over_parameters}
+use Rattle.pattern_unify.specs.Patterns.{parameter_at, over_parameters}
 use Rattle.pattern_unify.specs.State.{metas_but}
 
 -- a scheme over the parameters of a pattern is the scheme with its locals renamed back

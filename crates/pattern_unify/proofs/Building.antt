@@ -1,5 +1,5 @@
 -- A list that is built from the elements of another, one by one.
-use Rattle.std.proofs.Common.{◌≡◌, ℕ, suc, ◌+◌, ◌<◌, Bool, true, false, if◌then◌else◌, append-nil, refl, List, [], ◌∷◌, ◌++◌, length, map, drop, get_or, append_assoc, add-one, zero, ◌≤◌, ◌-◌, inl, inr, arith, ap, ◌∙◌, sym}
+use Rattle.std.proofs.Common.{◌≡◌, ℕ, suc, ◌+◌, ◌<◌, Bool, true, false, if◌then◌else◌, append-nil, refl, List, [], ◌∷◌, ◌++◌, length, drop, get_or, append_assoc, add-one, zero, ◌≤◌, ◌-◌, inl, inr, arith, ap, ◌∙◌, sym}
 use Rattle.std.proofs.lemmas.Bool.{cases_lt}
 use Rattle.std.proofs.lemmas.List.{drop_more}
 use Rattle.binding_terms.proofs.Lists.{drop_from}

@@ -1,32 +1,32 @@
 -- A turn brings no common ground instance, where the root is of a category of contexts: each one of the state after it is one of the state before.
-use Rattle.std.proofs.Common.{◌≡◌, ◌⊎◌, ◌↔◌, inl, inr, ℕ, zero, suc, ◌<◌, ◌==◌, Bool, true, false, if◌then◌else◌, List, [], ◌∷◌, ◌++◌, length, map, Option, Some, None, MatchOption, slice_get, unwrap_or, option_map, refl, ap, sym, ◌∙◌, subst, arith}
+use Rattle.std.proofs.Common.{◌≡◌, ◌↔◌, inl, inr, ℕ, ◌<◌, ◌==◌, Bool, true, false, if◌then◌else◌, List, [], ◌∷◌, ◌++◌, length, map, Option, Some, None, MatchOption, slice_get, unwrap_or, option_map, refl, ap, sym, ◌∙◌, subst, arith}
 use Rattle.std.specs.List.{AllByRecursion, AllZip}
 use Rattle.std.proofs.lemmas.Bool.Decides.{nat_tests}
 use Rattle.std.proofs.lemmas.List.{length-map}
 use Rattle.std.proofs.lemmas.Option.{slice_get-map, slice_get_within}
 use Rattle.std.proofs.lemmas.Slice.Zip.{AllZip-long}
-use Rattle.binding_terms.specs.Signature.{Signature, Fits, Place}
+use Rattle.binding_terms.specs.Signature.{Signature, Fits}
 use Rattle.binding_terms.specs.Scope.{IsTerm}
 use Rattle.binding_terms.proofs.Lists.{all_map, all_middle, cons_head, cons_tail, match_map, some_once, some_within}
-use Rattle.scheme_terms.specs.SchemeTree.{SchemeTree, meta, known, con, Parts}
-use Rattle.scheme_terms.specs.Forms.{Names, Substitution, Instance, KnownVariable, GroundEntry}
+use Rattle.scheme_terms.specs.SchemeTree.{SchemeTree, meta, con, Parts}
+use Rattle.scheme_terms.specs.Forms.{Names, Instance, KnownVariable, GroundEntry}
 use Rattle.scheme_terms.specs.Context.{scope_of}
-use Rattle.scheme_terms.specs.Instance.{instance_of, place_of, root_variable, FitsScope, IsMetaValue, IsKnownPlace, IsEntryOf}
-use Rattle.scheme_terms.specs.SchemeScope.{IsScheme, IsKnownEntry, IsRoot, params_scope}
+use Rattle.scheme_terms.specs.Instance.{instance_of, place_of, root_variable, IsMetaValue, IsKnownPlace, IsEntryOf}
+use Rattle.scheme_terms.specs.SchemeScope.{IsScheme, IsRoot, params_scope}
 use Rattle.scheme_terms.specs.Embedding.{embedded}
-use Rattle.scheme_terms.specs.Substituting.{known_for, followed, followed_metas, identity, knowns_from, params}
+use Rattle.scheme_terms.specs.Substituting.{followed, followed_metas, identity, knowns_from}
 use Rattle.scheme_terms.specs.declared.scheme.MetaDecl.{MetaDecl}
 use Rattle.scheme_terms.proofs.Options.{zip_at}
-use Rattle.scheme_terms.proofs.Makings.{Making, instance_making}
+use Rattle.scheme_terms.proofs.Makings.{instance_making}
 use Rattle.scheme_terms.proofs.Embeddings.{embedded_injective}
 use Rattle.scheme_terms.proofs.InstanceScopes.{instance_keeps_scope}
 use Rattle.scheme_terms.proofs.SchemeFacts.{length_params}
 use Rattle.pattern_unify.specs.Equations.{SchemeEquation, AreSides}
-use Rattle.pattern_unify.specs.CommonInstance.{IsSameInstance, IsCommonGroundInstance}
+use Rattle.pattern_unify.specs.CommonInstance.{IsSameInstance}
 use Rattle.pattern_unify.specs.Patterns.{over_parameters, common_arguments}
-use Rattle.pattern_unify.specs.State.{State, Step, names_of, names_after, substitution_of, after_step, with_equations, applied_known, becomes, becomes_new, joins_to, knowns_but}
-use Rattle.pattern_unify.specs.Moves.{Row, delete, decompose, clash, join, meet, prune, bind, Direction, named_first, named_second, CanBind}
-use Rattle.pattern_unify.specs.Move.{Next, goes_on, has_none, Move, deletes, decomposes, clashes, joins, meets, prunes, binds, argument_equations, production_binders, production_slots, entry_equations, entry_args}
+use Rattle.pattern_unify.specs.State.{State, Step, names_of, names_after, substitution_of, after_step, with_equations, becomes, becomes_new, joins_to, knowns_but}
+use Rattle.pattern_unify.specs.Moves.{Row, delete, decompose, clash, join, meet, prune, bind, Direction, named_second, CanBind}
+use Rattle.pattern_unify.specs.Move.{goes_on, Move, deletes, decomposes, clashes, joins, meets, prunes, binds, argument_equations, production_binders, production_slots, entry_equations, entry_args}
 use Rattle.pattern_unify.specs.Run.{Turn}
 use Rattle.pattern_unify.specs.Laws.{IsState}
 use Rattle.pattern_unify.specs.CommonLaws.{IsGroundOfState}
@@ -36,7 +36,7 @@ use Rattle.pattern_unify.proofs.StepCategories.{new_categories, bind_categories,
 use Rattle.pattern_unify.proofs.MovedNames.{zip_by_places, zip_there, knowns_but_none, knowns_but_long, knowns_but_there, known_but}
 use Rattle.pattern_unify.proofs.ReplacedEquations.{IsSolvedBy, restored_all, new_ones, composed_again}
 use Rattle.pattern_unify.proofs.SubstitutionTurns.{entries_same}
-use Rattle.pattern_unify.proofs.GroundSteps.{whole, both, same_before, place_both, found_before, places_before}
+use Rattle.pattern_unify.proofs.GroundSteps.{same_before, place_both, found_before, places_before}
 use Rattle.pattern_unify.proofs.GroundTurns.{ground_instances_stay}
 use Rattle.pattern_unify.proofs.StatesKept.{parts_of_production, args_at, entry_places, AreTwo}
 use Rattle.pattern_unify.proofs.JoinTurns.{AreThese, sides, one_typed, other_typed, goes_low, stays_low}

@@ -370,7 +370,6 @@ clash_has_none sig names st fits state turn common =
     elim common [
       | inl k ↦ no_substitution sig (names_of st) turn.direction turn.e typed clash_here k.0
           (record {
-            root = k.1.root;
             scope = k.1.scope;
             schemes = k.1.schemes;
             equal = (all_between (MakesEqual k.0.metas k.0.knowns) turn.before turn.e turn.rest (subst (AllByRecursion (MakesEqual k.0.metas k.0.knowns)) turn.at k.1.equal), tt);

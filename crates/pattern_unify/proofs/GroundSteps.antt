@@ -1,44 +1,25 @@
 -- A step keeps the common ground instances: one of the equations before is, after the step, one of those after it.
-use Rattle.std.proofs.Common.{◌≡◌, ◌⊎◌, inl, inr, ℕ, zero, suc, ◌+◌, ◌-◌, ◌<◌, ◌≤◌, Bool, true, false, nat_lt, if◌then◌else◌, List, [], ◌∷◌, ◌++◌, length, map, Option, Some, None, MatchOption, slice_get, unwrap_or, option_map, append-nil, refl, ap, sym, ◌∙◌, subst, arith}
+use Rattle.std.proofs.Common.{◌≡◌, ℕ, zero, suc, ◌≤◌, List, [], ◌∷◌, length, map, Option, Some, None, MatchOption, slice_get, unwrap_or, refl, ap, sym, ◌∙◌, arith}
 use Rattle.std.specs.List.{AllByRecursion, AllZip}
-use Rattle.std.proofs.lemmas.List.{length-map}
-use Rattle.std.proofs.lemmas.Option.{slice_get_within}
 use Rattle.std.proofs.lemmas.Slice.Zip.{AllZip-long}
 use Rattle.binding_terms.specs.Signature.{Signature}
-use Rattle.binding_terms.specs.Tree.{Tree, var}
-use Rattle.binding_terms.specs.Substitution as filling
-use Rattle.binding_terms.specs.Scope.{IsTerm}
-use Rattle.binding_terms.proofs.Lists.{append_within, each_map, match_map, match_some, some_within, some_once, zip_push}
-use Rattle.scheme_terms.specs.SchemeTree.{SchemeTree, meta, local, values, filled}
+use Rattle.binding_terms.specs.Tree.{Tree}
+use Rattle.binding_terms.proofs.Lists.{each_map, match_map}
+use Rattle.scheme_terms.specs.SchemeTree.{SchemeTree}
 use Rattle.scheme_terms.specs.Forms.{Names, Substitution, Instance, KnownVariable, GroundEntry}
-use Rattle.scheme_terms.specs.Context.{scope_of, raised_args}
-use Rattle.scheme_terms.specs.Instance.{instance_of, value_of, place_of, FitsScope, IsMetaValue, IsKnownPlace, IsEntryOf}
+use Rattle.scheme_terms.specs.Instance.{instance_of, place_of, IsKnownPlace, IsEntryOf}
 use Rattle.scheme_terms.specs.SchemeScope.{IsScheme, IsKnownEntry, KnownsFit, params_scope}
-use Rattle.scheme_terms.specs.Embedding.{embedded}
-use Rattle.scheme_terms.specs.Substituting.{applied, known_for, composed, params, parameters, followed, followed_metas, argument_or_local, knowns_from, Suits}
-use Rattle.scheme_terms.specs.Demands.{variable_of, lowered}
+use Rattle.scheme_terms.specs.Substituting.{applied, known_for, composed, params, followed, followed_metas, Suits}
 use Rattle.scheme_terms.specs.declared.scheme.MetaDecl.{MetaDecl}
-use Rattle.scheme_terms.proofs.Options.{zip_at}
-use Rattle.scheme_terms.proofs.Makings.{Making, instance_making}
-use Rattle.scheme_terms.proofs.Embeddings.{embedded_injective, embedded_filled, embedded_is_scheme, embedded_is_term}
-use Rattle.scheme_terms.proofs.StrictTyped.{strict_is_scheme}
-use Rattle.scheme_terms.proofs.SchemeFacts.{length_params, scheme_saturated}
+use Rattle.scheme_terms.proofs.SchemeFacts.{scheme_saturated}
 use Rattle.scheme_terms.proofs.Followed.{instance_of_applied}
 use Rattle.scheme_terms.proofs.AppliedSchemes.{applied_anywhere}
 use Rattle.scheme_terms.proofs.Compositions.{same_arguments}
 use Rattle.pattern_unify.specs.Equations.{SchemeEquation, AreSides}
-use Rattle.pattern_unify.specs.CommonInstance.{IsSameInstance, IsCommonGroundInstance}
-use Rattle.pattern_unify.specs.Patterns.{marked}
-use Rattle.pattern_unify.specs.State.{State, Step, names_of, names_after, substitution_of, after_step, with_equations, applied_equation, applied_known, becomes_new, decl_with, metas_but}
-use Rattle.pattern_unify.specs.CommonLaws.{IsGroundOfState}
-use Rattle.pattern_unify.specs.Laws.{IsState}
+use Rattle.pattern_unify.specs.CommonInstance.{IsSameInstance}
+use Rattle.pattern_unify.specs.State.{Step, names_after, substitution_of, applied_equation, applied_known}
 use Rattle.pattern_unify.proofs.Renaming.{KeepsCategories}
-use Rattle.pattern_unify.proofs.KeptParameters.{kept_numbers, restored, marked_distinct}
-use Rattle.pattern_unify.proofs.MoveValues.{HasParametersAmong}
 use Rattle.pattern_unify.proofs.TypedSuits.{IsTyped, typed_suits}
-use Rattle.pattern_unify.proofs.StepCategories.{on_kept, new_there, new_typed}
-use Rattle.pattern_unify.proofs.MovedNames.{same_by_places, takes_own, meta_but, meta_but_there, meta_but_other, metas_but_long, metas_but_there, knowns_become, knowns_but_none}
-use Rattle.pattern_unify.proofs.SubstitutionMoves.{same_or_other}
 
 -- a step and an instance after it
 module _ (sig : Signature) (names : Names) (fits : KnownsFit sig names) (step : Step) (keeps : KeepsCategories sig names (substitution_of names step)) (after : Instance) where

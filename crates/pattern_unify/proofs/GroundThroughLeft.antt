@@ -1,5 +1,5 @@
 -- Each common ground instance is what a solved run has found, over the names that are left, followed by one ground instance of these.
-use Rattle.std.proofs.Common.{◌≡◌, ◌⊎◌, inl, inr, ℕ, zero, suc, ◌<◌, Bool, true, List, [], ◌∷◌, ◌++◌, length, map, Option, Some, None, MatchOption, slice_get, unwrap_or, refl, ap, sym, ◌∙◌, subst, arith}
+use Rattle.std.proofs.Common.{◌≡◌, inl, inr, ℕ, ◌<◌, true, List, [], ◌∷◌, ◌++◌, length, map, Option, Some, None, MatchOption, slice_get, unwrap_or, refl, ap, sym, ◌∙◌, subst, arith}
 use Rattle.std.specs.List.{AllByRecursion, AllZip}
 use Rattle.std.proofs.lemmas.Option.{slice_get_within}
 use Rattle.std.proofs.lemmas.Slice.Zip.{AllZip-long}
@@ -7,17 +7,17 @@ use Rattle.binding_terms.specs.Numbered.{AnyByRecursion}
 use Rattle.binding_terms.specs.Signature.{Signature, Place}
 use Rattle.binding_terms.specs.Scope.{IsTerm}
 use Rattle.binding_terms.specs.Tree.{Tree, var}
-use Rattle.binding_terms.proofs.Lists.{all_at, cons_head, cons_tail, map_same, match_map, some_once, some_within}
-use Rattle.scheme_terms.specs.SchemeTree.{SchemeTree, meta, StrictIn}
+use Rattle.binding_terms.proofs.Lists.{all_at, cons_head, cons_tail, map_same, match_map, some_within}
+use Rattle.scheme_terms.specs.SchemeTree.{SchemeTree, StrictIn}
 use Rattle.scheme_terms.specs.Forms.{Names, Substitution, Instance, KnownVariable, GroundEntry, ContextValue}
 use Rattle.scheme_terms.specs.Context.{scope_of}
 use Rattle.scheme_terms.specs.Instance.{instance_of, value_of, place_of, FitsScope, IsMetaValue, IsKnownPlace, IsEntryOf}
-use Rattle.scheme_terms.specs.SchemeScope.{IsScheme, AreSchemes, IsKnownEntry, KnownsFit, params_scope}
+use Rattle.scheme_terms.specs.SchemeScope.{AreSchemes, IsKnownEntry, KnownsFit, params_scope}
 use Rattle.scheme_terms.specs.Embedding.{embedded}
 use Rattle.scheme_terms.specs.Substituting.{known_for, applied, composed, params, followed, followed_metas, LocalsBelow, IsSaturated}
 use Rattle.scheme_terms.specs.declared.scheme.MetaDecl.{MetaDecl}
 use Rattle.scheme_terms.proofs.Options.{zip_at}
-use Rattle.scheme_terms.proofs.Makings.{Making, instance_making, demand_is_value, strict_demands}
+use Rattle.scheme_terms.proofs.Makings.{instance_making, demand_is_value, strict_demands}
 use Rattle.scheme_terms.proofs.Embeddings.{embedded_injective}
 use Rattle.scheme_terms.proofs.SchemeFacts.{length_params, scheme_saturated, scheme_below}
 use Rattle.pattern_unify.specs.Equations.{SchemeEquation, AreSides}
@@ -30,7 +30,7 @@ use Rattle.pattern_unify.proofs.MovedNames.{same_by_places}
 use Rattle.pattern_unify.proofs.StatesKept.{entry_places, entry_typed}
 use Rattle.pattern_unify.proofs.LinesKept.{saturated}
 use Rattle.pattern_unify.proofs.PickedLists.{picked_at, picked_back, zip_picked}
-use Rattle.pattern_unify.proofs.Renumbered.{renumbered, instances_agree}
+use Rattle.pattern_unify.proofs.Renumbered.{instances_agree}
 use Rattle.pattern_unify.proofs.RunInstances.{Found}
 use Rattle.pattern_unify.proofs.LeftInstances.{OnlyLeft, left_declared, known_left_declared, found_only, found_knowns_left, entry_only, put_known, is_renumbered, left_is_common}
 use Rattle.pattern_unify.proofs.ThroughLeft.{numbers_agree, new_line, new_number}

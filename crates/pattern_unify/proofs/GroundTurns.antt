@@ -1,32 +1,32 @@
 -- A turn keeps the common ground instances: each one of the state before is one of the state after it.
-use Rattle.std.proofs.Common.{◌≡◌, ◌⊎◌, inl, inr, ℕ, zero, suc, ◌+◌, ◌-◌, ◌<◌, Bool, true, false, nat_lt, if◌then◌else◌, List, [], ◌∷◌, ◌++◌, length, map, Option, Some, None, MatchOption, slice_get, unwrap_or, append-nil, refl, ap, sym, ◌∙◌, subst, arith}
+use Rattle.std.proofs.Common.{◌≡◌, inl, inr, ℕ, suc, ◌+◌, ◌-◌, ◌<◌, Bool, true, false, nat_lt, if◌then◌else◌, List, [], ◌∷◌, ◌++◌, length, map, Option, Some, None, MatchOption, slice_get, unwrap_or, append-nil, refl, ap, sym, ◌∙◌, subst, arith}
 use Rattle.std.specs.List.{AllByRecursion, AllZip}
 use Rattle.std.proofs.lemmas.Option.{slice_get_within}
 use Rattle.std.proofs.lemmas.Slice.Zip.{AllZip-long}
-use Rattle.binding_terms.specs.Signature.{Signature, Fits, Place}
+use Rattle.binding_terms.specs.Signature.{Signature}
 use Rattle.binding_terms.specs.Tree.{Tree, var}
-use Rattle.binding_terms.proofs.Lists.{all_map, all_middle, cons_head, each_map, match_some, some_once}
+use Rattle.binding_terms.proofs.Lists.{all_map, all_middle, each_map, match_some, some_once}
 use Rattle.scheme_terms.specs.SchemeTree.{SchemeTree, meta, known, local, con, Values, Parts, filled}
-use Rattle.scheme_terms.specs.Forms.{Names, Substitution, Instance, KnownVariable, GroundEntry}
-use Rattle.scheme_terms.specs.Context.{scope_of, raised_args}
-use Rattle.scheme_terms.specs.Instance.{instance_of, value_of, place_of, FitsScope, IsMetaValue, IsKnownPlace, IsEntryOf}
+use Rattle.scheme_terms.specs.Forms.{Names, Instance, KnownVariable, GroundEntry}
+use Rattle.scheme_terms.specs.Context.{raised_args}
+use Rattle.scheme_terms.specs.Instance.{instance_of, value_of, place_of, IsMetaValue, IsKnownPlace, IsEntryOf}
 use Rattle.scheme_terms.specs.SchemeScope.{IsScheme}
 use Rattle.scheme_terms.specs.Embedding.{embedded}
-use Rattle.scheme_terms.specs.Substituting.{followed, params, metas_from, identity, LocalsBelow}
+use Rattle.scheme_terms.specs.Substituting.{followed, params, identity, LocalsBelow}
 use Rattle.scheme_terms.specs.declared.scheme.MetaDecl.{MetaDecl}
 use Rattle.scheme_terms.proofs.Options.{zip_at}
-use Rattle.scheme_terms.proofs.Makings.{Making, instance_making}
+use Rattle.scheme_terms.proofs.Makings.{instance_making}
 use Rattle.scheme_terms.proofs.Embeddings.{embedded_injective, embedded_filled}
 use Rattle.scheme_terms.proofs.InstanceScopes.{place_some}
 use Rattle.scheme_terms.proofs.SchemeFacts.{scheme_below, scheme_saturated}
 use Rattle.scheme_terms.proofs.AppliedInstances.{instance_filled}
 use Rattle.pattern_unify.specs.Equations.{SchemeEquation, AreSides}
-use Rattle.pattern_unify.specs.CommonInstance.{IsSameInstance, IsCommonGroundInstance}
+use Rattle.pattern_unify.specs.CommonInstance.{IsSameInstance}
 use Rattle.pattern_unify.specs.Patterns.{over_parameters, parameter_at, common_arguments}
 use Rattle.pattern_unify.specs.Pruning.{FirstPrunable}
-use Rattle.pattern_unify.specs.State.{State, Step, names_of, names_after, substitution_of, after_step, with_equations, becomes, becomes_new, joins_to, metas_but}
+use Rattle.pattern_unify.specs.State.{State, Step, names_of, names_after, substitution_of, after_step, with_equations, becomes, becomes_new, joins_to}
 use Rattle.pattern_unify.specs.Moves.{Row, delete, decompose, clash, join, meet, prune, bind, Direction, named_first, named_second, CanMeet, CanPrune, CanBind}
-use Rattle.pattern_unify.specs.Move.{Next, goes_on, has_none, Move, deletes, decomposes, clashes, joins, meets, prunes, binds, argument_equations, production_binders, production_slots, entry_equations, entry_args}
+use Rattle.pattern_unify.specs.Move.{goes_on, Move, deletes, decomposes, clashes, joins, meets, prunes, binds, argument_equations, production_binders, production_slots, entry_equations, entry_args}
 use Rattle.pattern_unify.specs.Run.{Turn}
 use Rattle.pattern_unify.specs.Laws.{IsState}
 use Rattle.pattern_unify.specs.CommonLaws.{IsGroundOfState}
@@ -41,7 +41,7 @@ use Rattle.pattern_unify.proofs.GroundSteps.{same_after, places_after, found_bef
 use Rattle.pattern_unify.proofs.GroundMoves.{same_together, with_new, all_typed, new_together}
 use Rattle.pattern_unify.proofs.StatesKept.{parts_of_production, args_at, AreTwo}
 use Rattle.pattern_unify.proofs.JoinTurns.{AreThese, sides}
-use Rattle.pattern_unify.proofs.TurnInstances.{leads, never_goes, same_sides, joins_two}
+use Rattle.pattern_unify.proofs.TurnInstances.{leads, never_goes, joins_two}
 use Rattle.pattern_unify.proofs.TurnFalling.{first_typed, second_typed}
 
 -- equations that an instance solves, and those that become the same trees

@@ -1,22 +1,22 @@
 -- A join keeps the common instances that are substitutions.
-use Rattle.std.proofs.Common.{◌≡◌, ◌⊎◌, ◌↔◌, inl, inr, ℕ, zero, suc, ◌<◌, ◌==◌, Bool, true, false, if◌then◌else◌, List, [], ◌∷◌, ◌++◌, length, map, Some, MatchOption, slice_get, unwrap_or, append-nil, refl, ap, sym, ◌∙◌, subst, arith}
+use Rattle.std.proofs.Common.{◌≡◌, ◌⊎◌, ◌↔◌, inl, inr, ℕ, List, [], ◌∷◌, ◌++◌, length, map, Some, slice_get, unwrap_or, append-nil, refl, ap, sym, ◌∙◌, subst, arith}
 use Rattle.std.specs.List.{AllByRecursion, AllZip}
 use Rattle.std.proofs.lemmas.Bool.Decides.{nat_tests}
 use Rattle.std.proofs.lemmas.List.{length-map}
 use Rattle.std.proofs.lemmas.Option.{slice_get_within}
 use Rattle.std.proofs.lemmas.Slice.Zip.{AllZip-long}
-use Rattle.binding_terms.specs.Signature.{Signature, Place}
+use Rattle.binding_terms.specs.Signature.{Signature}
 use Rattle.binding_terms.proofs.Lists.{all_at, match_some, match_map, some_once}
 use Rattle.scheme_terms.specs.SchemeTree.{SchemeTree, known, local}
 use Rattle.scheme_terms.specs.Forms.{Names, Substitution, KnownVariable}
-use Rattle.scheme_terms.specs.SchemeScope.{AreSchemes, IsKnownEntry, KnownsFit}
-use Rattle.scheme_terms.specs.Substituting.{known_for, scheme_for, applied, composed, params, metas_from, Suits, applied_entry, IsKnownValue, IsSubstitution}
+use Rattle.scheme_terms.specs.SchemeScope.{AreSchemes, IsKnownEntry}
+use Rattle.scheme_terms.specs.Substituting.{known_for, applied, composed, metas_from, Suits, applied_entry, IsKnownValue, IsSubstitution}
 use Rattle.scheme_terms.proofs.Options.{zip_at}
-use Rattle.scheme_terms.proofs.Makings.{Making, applied_making}
+use Rattle.scheme_terms.proofs.Makings.{applied_making}
 use Rattle.scheme_terms.proofs.Compositions.{entry_with}
 use Rattle.pattern_unify.specs.Equations.{SchemeEquation, AreSides}
-use Rattle.pattern_unify.specs.CommonInstance.{MakesEqual, IsCommonInstance}
-use Rattle.pattern_unify.specs.State.{State, Step, names_of, names_after, substitution_of, after_step, with_equations, applied_known, joins_to, metas_but, knowns_but}
+use Rattle.pattern_unify.specs.CommonInstance.{MakesEqual}
+use Rattle.pattern_unify.specs.State.{State, Step, names_of, names_after, substitution_of, after_step, with_equations, applied_known, joins_to, metas_but}
 use Rattle.pattern_unify.specs.Move.{entry_equations, entry_args}
 use Rattle.pattern_unify.specs.Laws.{IsState}
 use Rattle.pattern_unify.specs.CommonLaws.{IsOfState}
@@ -26,7 +26,7 @@ use Rattle.pattern_unify.proofs.SteppedSchemes.{known_after}
 use Rattle.pattern_unify.proofs.StepCategories.{join_categories}
 use Rattle.pattern_unify.proofs.StepInstances.{metas_become, knowns_together, equal_together}
 use Rattle.pattern_unify.proofs.MovedNames.{knowns_become, knowns_zip, knowns_but_there, knowns_but_long, known_but, metas_but_none}
-use Rattle.pattern_unify.proofs.ReplacedEquations.{IsSolvedBy, replaced_all, new_ones}
+use Rattle.pattern_unify.proofs.ReplacedEquations.{replaced_all, new_ones}
 use Rattle.pattern_unify.proofs.SubstitutionMoves.{each_has_value}
 use Rattle.pattern_unify.proofs.SubstitutionTurns.{same_entries, entries_same, stepped, unstepped, many_knowns, replaces, restores, solved_here}
 use Rattle.pattern_unify.proofs.StatesKept.{entry_places, entry_typed, entries_sides, args_at, AreTwo}

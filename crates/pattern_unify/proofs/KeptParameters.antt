@@ -4,11 +4,11 @@ use Rattle.std.proofs.lemmas.Bool.{cases_lt}
 use Rattle.std.proofs.lemmas.Bool.Decides.{nat_tests}
 use Rattle.binding_terms.specs.Numbered.{AnyByRecursion}
 use Rattle.scheme_terms.specs.SchemeTree.{SchemeTree, meta, known, local, con, Values, no_values, value, values, listed, filled, AreDistinctLocals, IsApart}
-use Rattle.scheme_terms.specs.Substituting.{argument_or_local, parameters, ValuesBelow}
+use Rattle.scheme_terms.specs.Substituting.{argument_or_local, parameters}
 use Rattle.scheme_terms.specs.Demands.{numbers, parameter_of, variable_of, lowered}
 use Rattle.scheme_terms.proofs.Lowering.{renaming, renaming_at, renaming_past, arguments_rename, variable_at, variable_past}
 use Rattle.scheme_terms.proofs.SchemeSubstitutions.{filled_filled}
-use Rattle.pattern_unify.specs.Patterns.{IsAmong, is_one_local, marked, common_arguments, is_among, is_kept, kept_arguments}
+use Rattle.pattern_unify.specs.Patterns.{IsAmong, is_one_local, marked, common_arguments, is_among, kept_arguments}
 use Rattle.pattern_unify.proofs.EachLocals.{EachLocal, each_so, renamed_same}
 
 -- the numbers of the parameters that are marked

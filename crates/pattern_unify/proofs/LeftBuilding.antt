@@ -1,13 +1,17 @@
 -- The names that are left, one by one.
-use Rattle.std.proofs.Common.{◌≡◌, ◌↔◌, ◌+◌, ◌<◌, ℕ, zero, suc, Bool, true, false, if◌then◌else◌, IsTrue, List, [], ◌∷◌, ◌++◌, length, map, drop, get_or, append_assoc, append-nil, add-one, refl, ap, sym, ◌∙◌, subst, arith}
+use Rattle.std.proofs.Common.{◌≡◌, ◌↔◌, ◌+◌, ◌<◌, ℕ, zero, suc, Bool, true, false, if◌then◌else◌, IsTrue, List, [], ◌∷◌, ◌++◌, length, map, drop, get_or, append_assoc, append-nil, add-one, refl, ap, sym, ◌∙◌, arith}
+use Rattle.std.proofs.lemmas.List.{map-append}
 use Rattle.std.proofs.lemmas.Option.{get_or_from_slice_get}
 use Rattle.binding_terms.specs.Numbered.{AnyByRecursion}
 use Rattle.binding_terms.proofs.Lists.{some_within, drop_from}
-use Rattle.scheme_terms.specs.SchemeTree.{SchemeTree, OccursIn}
-use Rattle.scheme_terms.specs.View.{known_variable}
+use Rattle.scheme_terms.specs.SchemeTree.{SchemeTree, meta, local, values, OccursIn}
+use Rattle.scheme_terms.specs.Substituting.{parameters, params}
+use Rattle.scheme_terms.specs.View.{scheme, known_variable}
 use Rattle.scheme_terms.specs.declared.scheme.KnownDecl.{KnownDecl}
+use Rattle.scheme_terms.specs.declared.scheme.MetaDecl.{MetaDecl}
+use Rattle.scheme_terms.specs.declared.scheme.Scheme.{Scheme}
 use Rattle.pattern_unify.specs.Measure.{any_scheme, meta_stands}
-use Rattle.pattern_unify.specs.LeftNames.{picked, rank, knowns_left}
+use Rattle.pattern_unify.specs.LeftNames.{picked, rank, metas_left, knowns_left}
 use Rattle.pattern_unify.proofs.Standing.{stands_tested, tested_stands}
 use Rattle.pattern_unify.proofs.Building.{built_more}
 
@@ -44,6 +48,16 @@ knowns_more test ds i done new whole b below is more e =
     let o = some_within ds i below in
     built_more (λ n xs. knowns_left test n (map known_variable xs)) (λ n d. rank test 0 n) (λ n d xs. refl) ds i o.0 done new whole b below
     (sym (get_or_from_slice_get ds i o.0 o.0 o.1)) is more e
+
+pub metas_more : (test : ℕ → Bool) (ds : List MetaDecl) (i : ℕ) (d : MetaDecl) (done new : List Scheme) (whole : List SchemeTree) (s : Scheme) → i < length ds → d ≡ get_or ds i d →
+    (keep : Bool) (count : ℕ) → keep ≡ test i → count ≡ rank test 0 i → scheme s ≡ (if keep then meta count (values (parameters (params d))) else local 0) →
+    new ≡ done ++ s ∷ [] → map scheme done ++ metas_left test i (drop i ds) ≡ whole → map scheme new ++ metas_left test (i + 1) (drop (i + 1) ds) ≡ whole
+metas_more test ds i d done new whole s below at keep count kept counted is more e =
+    let here : scheme s ≡ (if test i then meta (rank test 0 i) (values (parameters (params d))) else local 0) =
+    is ∙ ap (λ n. if keep then meta n (values (parameters (params d))) else local 0) counted
+    ∙ ap (λ b. if b then meta (rank test 0 i) (values (parameters (params d))) else local 0) kept in
+    built_more (metas_left test) (λ n x. if test n then meta (rank test 0 n) (values (parameters (params x))) else local 0) (λ n x xs. refl) ds i d (map scheme done)
+    (map scheme new) whole (scheme s) below at here (ap (map scheme) more ∙ map-append scheme done (s ∷ [])) e
 
 pub picked_more : {D B : Type 0} (test : ℕ → Bool) (f : D → B) (ds : List D) (i : ℕ) (d : D) (done new whole : List B) (b : Bool) → i < length ds → d ≡ get_or ds i d →
     b ≡ test i → new ≡ done ++ (if b then f d ∷ [] else []) → done ++ picked test i (map f (drop i ds)) ≡ whole → new ++ picked test (i + 1) (map f (drop (i + 1) ds)) ≡ whole

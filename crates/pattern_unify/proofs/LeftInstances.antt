@@ -1,17 +1,16 @@
 -- What a solved run has found, over the names that are left, is a common instance.
-use Rattle.std.proofs.Common.{◌≡◌, ◌≢◌, ◌⊎◌, inl, inr, ℕ, zero, suc, Bool, true, false, ◌==◌, ◌||◌, IsTrue, List, [], ◌∷◌, ◌++◌, length, map, drop, Some, MatchOption, slice_get, unwrap_or, option_map, refl, ap, sym, ◌∙◌, subst, arith}
+use Rattle.std.proofs.Common.{◌≡◌, ◌≢◌, ◌⊎◌, inl, inr, ℕ, zero, suc, Bool, true, false, ◌==◌, ◌||◌, List, [], ◌∷◌, length, map, drop, Some, MatchOption, slice_get, unwrap_or, option_map, refl, ap, sym, ◌∙◌, subst, arith}
 use Rattle.std.specs.List.{AllByRecursion, AllZip}
 use Rattle.std.proofs.lemmas.Bool.Decides.{nat_tests}
-use Rattle.std.proofs.lemmas.List.{length-map}
-use Rattle.std.proofs.lemmas.Option.{slice_get-map, slice_get_within}
+use Rattle.std.proofs.lemmas.Option.{slice_get-map}
 use Rattle.binding_terms.specs.Numbered.{AnyByRecursion}
 use Rattle.binding_terms.specs.Signature.{Signature, Place, slots, binders}
 use Rattle.binding_terms.specs.declared.grammar.Prod.{Prod}
-use Rattle.binding_terms.proofs.Lists.{all_at, all_from_places, any_at, any_back, any_front, each_map, match_from, match_map, match_some, some_once, some_within}
+use Rattle.binding_terms.proofs.Lists.{all_at, all_from_places, any_at, any_back, any_front, each_map, match_from, match_map, match_some}
 use Rattle.scheme_terms.specs.SchemeTree.{SchemeTree, meta, known, local, con, values, Parts, no_parts, part, OccursIn, OccursInParts, KnownIn, StrictIn, StrictInParts}
 use Rattle.scheme_terms.specs.Forms.{Names, Substitution, SchemeEntry, KnownVariable}
 use Rattle.scheme_terms.specs.SchemeScope.{IsScheme, AreSchemes, IsKnownEntry, KnownsFit, params_scope}
-use Rattle.scheme_terms.specs.Substituting.{scheme_for, known_for, applied, composed, params, parameters, Suits, IsSaturated, applied_entry, IsKnownValue, IsSubstitution}
+use Rattle.scheme_terms.specs.Substituting.{known_for, applied, composed, params, parameters, Suits, IsSaturated, applied_entry, IsKnownValue}
 use Rattle.scheme_terms.specs.declared.scheme.MetaDecl.{MetaDecl}
 use Rattle.scheme_terms.specs.declared.scheme.Root.{Root}
 use Rattle.scheme_terms.specs.declared.scheme.Root.TheVariants.{Closed, Empty, Whole}
@@ -21,13 +20,12 @@ use Rattle.scheme_terms.proofs.Compositions.{same_arguments, entry_with}
 use Rattle.pattern_unify.specs.Equations.{SchemeEquation, AreSides}
 use Rattle.pattern_unify.specs.CommonInstance.{MakesEqual, IsCommonInstance}
 use Rattle.pattern_unify.specs.State.{State, names_of, applied_known}
-use Rattle.pattern_unify.specs.Measure.{meta_stands, any_scheme, sides, entry_schemes, schemes_of}
-use Rattle.pattern_unify.specs.LeftNames.{is_meta_left, is_known_left, is_listed, picked, rank, left_names}
+use Rattle.pattern_unify.specs.Measure.{sides, entry_schemes, schemes_of}
+use Rattle.pattern_unify.specs.LeftNames.{is_meta_left, is_known_left, is_listed, rank, left_names}
 use Rattle.pattern_unify.proofs.Standing.{StandsIn, stands_tested, tested_stands}
 use Rattle.pattern_unify.proofs.JoinFalling.{KnownStandsIn}
 use Rattle.pattern_unify.proofs.TypedSuits.{IsTyped}
-use Rattle.pattern_unify.proofs.StatesKept.{entry_places, entry_typed}
-use Rattle.pattern_unify.proofs.LinesKept.{HasLines, all_schemes, saturated, line_declared}
+use Rattle.pattern_unify.proofs.LinesKept.{all_schemes, saturated, line_declared}
 use Rattle.pattern_unify.proofs.PickedLists.{picked_at, all_picked, metas_left_at, knowns_left_at}
 use Rattle.pattern_unify.proofs.Renumbered.{renumbered, renumbered_is, renumbered_typed, left_suits}
 use Rattle.pattern_unify.proofs.RunInstances.{Found}
@@ -259,7 +257,6 @@ module _ (sig : Signature) (names : Names) (eqs : List SchemeEquation) (final : 
 
   pub left_is_common : IsCommonInstance sig names eqs by
   left_is_common = record {
-    root = found.state.root;
     scope = left_fits;
     schemes = record {
       metas = by_metas names.metas far.metas found.itself.schemes.metas found_only;

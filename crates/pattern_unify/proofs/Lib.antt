@@ -39,6 +39,7 @@ pub mod RunFacts
 pub mod RunFunction
 pub mod RunInstances
 pub mod SolvedRuns
+pub mod Stages
 pub mod Standing
 pub mod StatesKept
 pub mod StepCategories

@@ -1,15 +1,13 @@
 -- Each name that stands somewhere in a state has a line: a value that the run has found with a strict occurrence of it.
-use Rattle.std.proofs.Common.{◌≡◌, ◌⊎◌, inl, inr, ℕ, zero, suc, ◌+◌, ◌<◌, ◌≤◌, Bool, true, false, ◌==◌, if◌then◌else◌, List, [], ◌∷◌, ◌++◌, length, map, drop, Some, MatchOption, slice_get, unwrap_or, refl, ap, sym, ◌∙◌, subst, arith}
+use Rattle.std.proofs.Common.{◌≡◌, ◌⊎◌, inl, inr, ℕ, zero, suc, ◌+◌, Bool, true, false, ◌==◌, if◌then◌else◌, List, [], ◌∷◌, ◌++◌, length, map, Some, slice_get, refl, ap, sym, ◌∙◌, subst, arith}
 use Rattle.std.specs.List.{AllByRecursion, AllZip}
-use Rattle.std.proofs.lemmas.Bool.{cases_lt}
 use Rattle.binding_terms.specs.Numbered.{AnyByRecursion}
-use Rattle.binding_terms.specs.Signature.{Signature, Place, slots, binders}
-use Rattle.binding_terms.specs.Scope.{bound}
-use Rattle.binding_terms.proofs.Lists.{any_at, any_split, any_front, any_back, match_some, some_within}
-use Rattle.scheme_terms.specs.SchemeTree.{SchemeTree, meta, known, local, con, Values, no_values, value, values, listed, Parts, no_parts, part, filled, OccursIn, OccursInValues, OccursInParts, KnownIn, KnownInValues, KnownInParts, StrictIn, StrictInParts}
-use Rattle.scheme_terms.specs.Forms.{Names, Substitution, KnownVariable}
-use Rattle.scheme_terms.specs.SchemeScope.{IsScheme, params_scope}
-use Rattle.scheme_terms.specs.Substituting.{scheme_for, known_for, argument_or_local, applied, applied_values, applied_parts, params, parameters, knowns_from, IsSaturated, PartsAreSaturated}
+use Rattle.binding_terms.specs.Signature.{Signature}
+use Rattle.binding_terms.proofs.Lists.{any_split, any_front, any_back, match_some}
+use Rattle.scheme_terms.specs.SchemeTree.{SchemeTree, meta, known, local, con, Values, no_values, value, values, listed, Parts, no_parts, part, OccursIn, OccursInValues, OccursInParts, KnownIn, KnownInValues, KnownInParts, StrictIn, StrictInParts}
+use Rattle.scheme_terms.specs.Forms.{Names, KnownVariable}
+use Rattle.scheme_terms.specs.SchemeScope.{params_scope}
+use Rattle.scheme_terms.specs.Substituting.{scheme_for, known_for, argument_or_local, applied, applied_values, applied_parts, params, parameters, IsSaturated, PartsAreSaturated}
 use Rattle.scheme_terms.specs.declared.scheme.MetaDecl.{MetaDecl}
 use Rattle.scheme_terms.proofs.SchemeFacts.{scheme_saturated}
 use Rattle.pattern_unify.specs.Equations.{SchemeEquation}
@@ -18,8 +16,8 @@ use Rattle.pattern_unify.specs.Measure.{sides, entry_schemes, schemes_of}
 use Rattle.pattern_unify.specs.Laws.{IsState}
 use Rattle.pattern_unify.proofs.Standing.{StandsIn, ComesFrom, in_first, in_second, in_either, from_mapped, from_step}
 use Rattle.pattern_unify.proofs.Falling.{IsKeptOrPut, from_but}
-use Rattle.pattern_unify.proofs.JoinFalling.{KnownStandsIn, IsKnownPut, known_filled, known_in_arguments, any_replaced}
-use Rattle.pattern_unify.proofs.MovedNames.{meta_but, meta_but_other, metas_but_there, metas_but_long, all_marked, all_kept}
+use Rattle.pattern_unify.proofs.JoinFalling.{KnownStandsIn, known_filled, known_in_arguments, any_replaced}
+use Rattle.pattern_unify.proofs.MovedNames.{meta_but_other, metas_but_there, all_marked, all_kept}
 use Rattle.pattern_unify.proofs.SubstitutionMoves.{value_is}
 use Rattle.pattern_unify.proofs.TypedSuits.{IsTyped}
 use Rattle.pattern_unify.proofs.StrictKept.{strict_kept_in}

@@ -1,5 +1,5 @@
 -- Each name that stands in a state of a run has a line, from the start on.
-use Rattle.std.proofs.Common.{◌≡◌, ◌⊎◌, inl, inr, ℕ, zero, suc, ◌+◌, ◌<◌, ◌≤◌, Bool, true, false, List, [], ◌∷◌, ◌++◌, length, map, drop, Some, MatchOption, slice_get, unwrap_or, refl, ap, sym, ◌∙◌, subst, arith}
+use Rattle.std.proofs.Common.{◌≡◌, ◌⊎◌, inl, inr, ℕ, zero, suc, ◌+◌, Bool, true, false, List, [], ◌∷◌, ◌++◌, length, map, Some, slice_get, unwrap_or, refl, ap, sym, ◌∙◌, subst, arith}
 use Rattle.std.specs.List.{AllByRecursion, AllZip}
 use Rattle.std.proofs.lemmas.Option.{slice_get_within}
 use Rattle.binding_terms.specs.Numbered.{AnyByRecursion}
@@ -7,25 +7,24 @@ use Rattle.binding_terms.specs.Signature.{Signature, Place, slots, binders}
 use Rattle.binding_terms.specs.Scope.{bound}
 use Rattle.binding_terms.proofs.Lists.{any_at, any_split, any_front, any_back, match_some}
 use Rattle.scheme_terms.specs.SchemeTree.{SchemeTree, meta, known, local, con, Values, no_values, value, values, Parts, no_parts, part, OccursIn, OccursInValues, OccursInParts, KnownIn, KnownInValues, KnownInParts, StrictIn}
-use Rattle.scheme_terms.specs.Forms.{Names, KnownVariable, SchemeEntry}
+use Rattle.scheme_terms.specs.Forms.{Names, KnownVariable}
 use Rattle.scheme_terms.specs.Context.{variables}
 use Rattle.scheme_terms.specs.SchemeScope.{IsScheme, AreValues, AreSchemeParts, AreSchemes, IsKnownEntry, KnownsFit, params_scope}
-use Rattle.scheme_terms.specs.Substituting.{scheme_for, known_for, params, parameters, metas_from, knowns_from, identity, applied, IsSaturated}
+use Rattle.scheme_terms.specs.Substituting.{known_for, params, parameters, metas_from, knowns_from, identity, applied}
 use Rattle.scheme_terms.specs.declared.scheme.MetaDecl.{MetaDecl}
 use Rattle.scheme_terms.specs.declared.scheme.Root.{Root}
-use Rattle.pattern_unify.specs.Equations.{SchemeEquation, AreSides, AreToUnify}
+use Rattle.pattern_unify.specs.Equations.{SchemeEquation, AreSides}
 use Rattle.pattern_unify.specs.Patterns.{over_parameters, parameter_at, common_arguments, marked}
-use Rattle.pattern_unify.specs.Pruning.{FirstPrunable}
-use Rattle.pattern_unify.specs.State.{State, Step, names_of, start, after_step, with_equations, becomes, becomes_new, joins_to, metas_but}
+use Rattle.pattern_unify.specs.State.{State, names_of, start, after_step, with_equations, becomes, becomes_new, joins_to, metas_but}
 use Rattle.pattern_unify.specs.Measure.{sides, entry_schemes, schemes_of}
-use Rattle.pattern_unify.specs.Moves.{Row, delete, decompose, clash, join, meet, prune, bind, Direction, left_first, right_first, named_first, named_second, CanBind}
-use Rattle.pattern_unify.specs.Move.{Next, goes_on, has_none, Move, deletes, decomposes, clashes, joins, meets, prunes, binds, argument_equations, entry_equations, entry_args}
+use Rattle.pattern_unify.specs.Moves.{Row, delete, decompose, clash, join, meet, prune, bind, Direction, left_first, right_first, named_second, CanBind}
+use Rattle.pattern_unify.specs.Move.{goes_on, Move, deletes, decomposes, clashes, joins, meets, prunes, binds, argument_equations, entry_equations, entry_args}
 use Rattle.pattern_unify.specs.Run.{Turn}
 use Rattle.pattern_unify.specs.Laws.{IsState}
 use Rattle.pattern_unify.proofs.Standing.{StandsIn, from_filled}
 use Rattle.pattern_unify.proofs.Falling.{in_marked}
-use Rattle.pattern_unify.proofs.JoinFalling.{KnownStandsIn, known_filled, sides_second, occurs_decomposed, known_decomposed, any_in_entries}
-use Rattle.pattern_unify.proofs.MovedNames.{meta_but_there, meta_but_other, metas_but_there, metas_but_none, knowns_but_none, knowns_but_there, own_distinct}
+use Rattle.pattern_unify.proofs.JoinFalling.{known_filled, sides_second, occurs_decomposed, known_decomposed, any_in_entries}
+use Rattle.pattern_unify.proofs.MovedNames.{meta_but_there, meta_but_other, metas_but_there, metas_but_none, own_distinct}
 use Rattle.pattern_unify.proofs.SubstitutionMoves.{value_is}
 use Rattle.pattern_unify.proofs.StrictKept.{strict_kept_in}
 use Rattle.pattern_unify.proofs.StatesKept.{entry_places, entry_typed, AreTwo}

@@ -1,12 +1,11 @@
 -- The value of a metavariable which a move replaces, where the sides of the move's equation become the same.
-use Rattle.std.proofs.Common.{◌≡◌, ◌≢◌, ◌⊎◌, ℕ, zero, suc, ◌+◌, ◌-◌, ◌<◌, ◌≤◌, Bool, true, false, ◌==◌, nat_lt, if◌then◌else◌, List, [], ◌∷◌, length, map, Some, MatchOption, slice_get, get_or, inl, inr, refl, ap, sym, ◌∙◌, subst, arith}
+use Rattle.std.proofs.Common.{◌≡◌, ◌⊎◌, ℕ, zero, suc, ◌+◌, ◌-◌, ◌<◌, ◌≤◌, Bool, true, false, ◌==◌, nat_lt, if◌then◌else◌, List, [], ◌∷◌, length, Some, slice_get, get_or, inl, inr, refl, ap, sym, ◌∙◌, subst, arith}
 use Rattle.std.specs.List.{AllByRecursion}
 use Rattle.std.proofs.lemmas.Bool.{cases_lt}
-use Rattle.std.proofs.lemmas.Bool.Decides.{nat_tests}
 use Rattle.binding_terms.specs.Numbered.{AnyByRecursion}
 use Rattle.binding_terms.proofs.Lists.{match_at}
 use Rattle.scheme_terms.specs.SchemeTree.{SchemeTree, meta, known, local, con, Values, no_values, value, Parts, no_parts, part, listed, under, filled, AreDistinctLocals}
-use Rattle.scheme_terms.specs.Substituting.{argument_or_local, params, LocalsBelow, ValuesBelow, PartsBelow, IsSaturated, PartsAreSaturated}
+use Rattle.scheme_terms.specs.Substituting.{params, LocalsBelow, ValuesBelow, PartsBelow, IsSaturated, PartsAreSaturated}
 use Rattle.scheme_terms.specs.Demands.{numbers, parameter_of, variable_of, lowered}
 use Rattle.scheme_terms.specs.declared.scheme.MetaDecl.{MetaDecl}
 use Rattle.scheme_terms.proofs.Lowering.{renaming, renaming_at, renaming_past, arguments_rename, numbers_below}

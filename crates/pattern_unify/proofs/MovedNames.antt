@@ -1,16 +1,14 @@
 -- What becomes of the names where a step puts them in for themselves but one.
-use Rattle.std.proofs.Common.{◌≡◌, ◌⊎◌, inl, inr, ℕ, zero, suc, ◌+◌, ◌-◌, ◌<◌, ◌≤◌, Bool, true, false, ◌==◌, if◌then◌else◌, List, [], ◌∷◌, length, map, Option, Some, None, slice_get, get_or, unwrap_or, option_map, refl, ap, sym, ◌∙◌, subst, arith}
-use Rattle.std.specs.List.{AllByRecursion, AllZip}
+use Rattle.std.proofs.Common.{◌≡◌, ◌⊎◌, inl, inr, ℕ, zero, suc, ◌+◌, ◌-◌, ◌<◌, ◌≤◌, Bool, true, false, ◌==◌, if◌then◌else◌, List, [], ◌∷◌, length, map, Some, slice_get, get_or, unwrap_or, option_map, refl, ap, sym, ◌∙◌, subst, arith}
+use Rattle.std.specs.List.{AllZip}
 use Rattle.std.proofs.lemmas.Bool.{cases_lt}
 use Rattle.std.proofs.lemmas.Bool.Decides.{nat_tests}
 use Rattle.std.proofs.lemmas.List.{length-map}
 use Rattle.std.proofs.lemmas.Option.{slice_get-map, slice_get_within}
-use Rattle.binding_terms.specs.Tree.{Tree, var}
 use Rattle.binding_terms.proofs.Lists.{some_within}
 use Rattle.scheme_terms.specs.SchemeTree.{SchemeTree, meta, local, values, filled, AreDistinctLocals}
-use Rattle.scheme_terms.specs.Forms.{KnownVariable, Instance}
-use Rattle.scheme_terms.specs.Instance.{instance_of}
-use Rattle.scheme_terms.specs.Substituting.{applied, known_for, params, parameters, metas_from, knowns_from, followed_metas, argument_or_local}
+use Rattle.scheme_terms.specs.Forms.{KnownVariable}
+use Rattle.scheme_terms.specs.Substituting.{known_for, params, parameters, metas_from, knowns_from, argument_or_local}
 use Rattle.scheme_terms.specs.Demands.{numbers}
 use Rattle.scheme_terms.specs.declared.scheme.MetaDecl.{MetaDecl}
 use Rattle.scheme_terms.proofs.Lowering.{renaming, renaming_at, renaming_past, arguments_rename}

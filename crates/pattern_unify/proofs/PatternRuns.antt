@@ -1,36 +1,36 @@
 -- Equations of patterns, with entries of patterns, are within the fragment.
-use Rattle.std.proofs.Common.{◌≡◌, ◌≢◌, ◌⊎◌, inl, inr, ℕ, zero, suc, ◌+◌, ◌-◌, ◌<◌, ◌≤◌, Bool, List, [], ◌∷◌, ◌++◌, length, map, get_or, option_map, slice_get, unwrap_or, refl, ap, sym, ◌∙◌, subst, arith}
+use Rattle.std.proofs.Common.{◌≡◌, ◌⊎◌, inl, inr, ℕ, zero, suc, ◌+◌, ◌-◌, ◌<◌, ◌≤◌, List, [], ◌∷◌, ◌++◌, length, map, get_or, option_map, slice_get, unwrap_or, refl, ap, sym, ◌∙◌, subst, arith}
 use Rattle.std.specs.List.{AllByRecursion}
 use Rattle.std.proofs.lemmas.Bool.{cases_lt}
 use Rattle.binding_terms.specs.Numbered.{AnyByRecursion}
 use Rattle.binding_terms.specs.Signature.{Signature, Fits, Place}
-use Rattle.binding_terms.proofs.Lists.{all_append, all_middle}
+use Rattle.binding_terms.proofs.Lists.{all_middle}
 use Rattle.scheme_terms.specs.SchemeTree.{SchemeTree, meta, known, local, con, Values, no_values, value, values, Parts, no_parts, part, AreDistinctLocals, OccursIn, OccursInValues, OccursInParts}
 use Rattle.scheme_terms.specs.Forms.{Names, KnownVariable}
-use Rattle.scheme_terms.specs.SchemeScope.{AreSchemes, IsKnownEntry, KnownsFit}
-use Rattle.scheme_terms.specs.Substituting.{scheme_for, applied, params, parameters, metas_from}
-use Rattle.scheme_terms.specs.Demands.{numbers, parameter_of}
+use Rattle.scheme_terms.specs.SchemeScope.{AreSchemes, IsKnownEntry}
+use Rattle.scheme_terms.specs.Substituting.{scheme_for, applied, params, parameters}
+use Rattle.scheme_terms.specs.Demands.{numbers}
 use Rattle.scheme_terms.specs.declared.scheme.Root.{Root}
 use Rattle.scheme_terms.proofs.SchemeFacts.{scheme_below}
 use Rattle.scheme_terms.proofs.Identities.{identity_is_substitution}
-use Rattle.pattern_unify.specs.Equations.{SchemeEquation, AreSides, AreToUnify}
+use Rattle.pattern_unify.specs.Equations.{SchemeEquation, AreSides}
 use Rattle.pattern_unify.specs.Patterns.{IsAmong, IsRigidIn, IsRigidInParts, HasRigidOther, PartsHaveRigidOther, HasLocalsAmong, HaveLocalsAmong, PartsHaveLocalsAmong, over_parameters, parameter_at, common_arguments, marked}
 use Rattle.pattern_unify.specs.Pruning.{HasOther, HasPrunable, PartsHavePrunable}
 use Rattle.pattern_unify.specs.State.{State, Step, names_of, start, after_step, with_equations, applied_equation, applied_known, becomes, becomes_new, joins_to, metas_but}
-use Rattle.pattern_unify.specs.Moves.{Row, delete, decompose, clash, join, meet, prune, bind, Direction, left_first, right_first, named_first, named_second, CanBind, AppliesTo, Rests}
-use Rattle.pattern_unify.specs.Move.{Next, goes_on, has_none, Move, deletes, decomposes, clashes, joins, meets, prunes, binds, part_equations, argument_equations, production_binders, production_slots, entry_equations, entry_args}
-use Rattle.pattern_unify.specs.Run.{IsStuck, Turn, End, solved, clashed, stuck, Runs, is_solved, is_stuck, has_clash, turns, IsWithinFragment}
+use Rattle.pattern_unify.specs.Moves.{Row, delete, decompose, clash, join, meet, prune, bind, Direction, left_first, right_first, named_second, CanBind, AppliesTo, Rests}
+use Rattle.pattern_unify.specs.Move.{goes_on, Move, deletes, decomposes, clashes, joins, meets, prunes, binds, part_equations, argument_equations, production_binders, production_slots, entry_equations, entry_args}
+use Rattle.pattern_unify.specs.Run.{IsStuck, End, solved, clashed, stuck, Runs, is_solved, is_stuck, has_clash, turns}
 use Rattle.pattern_unify.specs.Laws.{IsState}
 use Rattle.pattern_unify.specs.CommonLaws.{IsOfPatterns, PartsAreOfPatterns, PatternsAreWithin}
 use Rattle.pattern_unify.proofs.Deciding.{decided_number}
 use Rattle.pattern_unify.proofs.EachLocals.{EachLocal, EachLocalOfValues, EachLocalOfParts}
-use Rattle.pattern_unify.proofs.KeptParameters.{ComesBack, among_back, marked_distinct}
+use Rattle.pattern_unify.proofs.KeptParameters.{among_back, marked_distinct}
 use Rattle.pattern_unify.proofs.MoveValues.{parameter_same}
 use Rattle.pattern_unify.proofs.MovedNames.{metas_but_none}
 use Rattle.pattern_unify.proofs.ReplacedEquations.{replaced_all}
 use Rattle.pattern_unify.proofs.PatternsKept.{renamed_patterns, applied_patterns, put_patterns}
-use Rattle.pattern_unify.proofs.StatesKept.{entry_places, entry_typed, AreTwo, turn_keeps_state}
-use Rattle.pattern_unify.proofs.JoinTurns.{AreThese, sides}
+use Rattle.pattern_unify.proofs.StatesKept.{entry_places, entry_typed, turn_keeps_state}
+use Rattle.pattern_unify.proofs.JoinTurns.{sides}
 use Rattle.pattern_unify.proofs.TurnInstances.{leads, never_goes, joins_two}
 use Rattle.scheme_terms.specs.Substituting.{identity}
 

@@ -1,7 +1,7 @@
 -- Elements picked from a list by their numbers, and their new numbers.
-use Rattle.std.proofs.Common.{◌≡◌, ℕ, zero, suc, ◌+◌, Bool, true, false, if◌then◌else◌, List, [], ◌∷◌, length, map, Some, slice_get, refl, ap, sym, ◌∙◌, subst, arith}
+use Rattle.std.proofs.Common.{◌≡◌, ℕ, zero, suc, ◌+◌, Bool, true, false, if◌then◌else◌, List, [], ◌∷◌, map, Some, slice_get, refl, ap, sym, ◌∙◌, subst, arith}
 use Rattle.std.specs.List.{AllByRecursion, AllZip}
-use Rattle.scheme_terms.specs.SchemeTree.{SchemeTree, meta, local, values}
+use Rattle.scheme_terms.specs.SchemeTree.{meta, local, values}
 use Rattle.scheme_terms.specs.Forms.{KnownVariable}
 use Rattle.scheme_terms.specs.Substituting.{params, parameters}
 use Rattle.scheme_terms.specs.declared.scheme.MetaDecl.{MetaDecl}

@@ -1,5 +1,5 @@
 -- A turn leads to one state, and a run has one end.
-use Rattle.std.proofs.Common.{Some, None, is_some, IsTrue, ◌↔◌, ◌≡◌, ◌∙◌, ℕ, Bool, List, [], ◌∷◌, ◌++◌, Option, zero, suc, slice_get, unwrap_or, inl, inr, refl, ap, sym, subst, arith}
+use Rattle.std.proofs.Common.{Some, None, is_some, IsTrue, ◌↔◌, ◌≡◌, ◌∙◌, ℕ, Bool, List, [], ◌∷◌, ◌++◌, Option, slice_get, unwrap_or, inl, inr, refl, ap, sym, subst, arith}
 use Rattle.std.proofs.lemmas.Bool.{cases_order}
 use Rattle.std.specs.List.{AllByRecursion}
 use Rattle.binding_terms.specs.Signature.{Signature}
@@ -164,6 +164,15 @@ same_move sig st before e rest d n1 n2 bind (binds m vs l a h) (binds k us s b i
 -- the equation of a turn does not rest
 turn_moves : {sig : Signature} {st : State} {next : Next} (turn : Turn sig st next) → Rests (names_of st) turn.e → ⊥
 turn_moves turn rests = rests turn.row turn.direction turn.first.applies
+
+-- the row of a turn is that of the first move for the first equation to which one applies
+pub row_of_turn : (sig : Signature) (st : State) (next : Next) (turn : Turn sig st next) (before : List SchemeEquation) (e : SchemeEquation)
+    (rest : List SchemeEquation) → st.equations ≡ before ++ e ∷ rest → AllByRecursion (Rests (names_of st)) before → (row : Row) (way : Direction) →
+    IsFirstMove (names_of st) e row way → turn.row ≡ row
+row_of_turn sig st next turn before e rest at rests row way first =
+    let place = same_place (names_of st) turn.before before turn.e e turn.rest rest (sym turn.at ∙ at) turn.rests rests
+    (turn_moves turn) (λ none. none row way first.applies) in
+    same_row (names_of st) turn.e turn.row row turn.direction way turn.first (subst (λ x. IsFirstMove (names_of st) x row way) (sym place.1) first)
 
 pub turn_is_function : TurnIsFunction
 turn_is_function sig st one other first second =

@@ -1,21 +1,20 @@
 -- What a solved run has kept: the common instances, and a line for each name that stands.
-use Rattle.std.proofs.Common.{◌≡◌, ◌↔◌, ℕ, List, [], ◌∷◌, length, map, Option, slice_get, unwrap_or, refl, ap, sym, ◌∙◌, subst, arith}
-use Rattle.std.specs.List.{AllByRecursion, AllZip}
+use Rattle.std.proofs.Common.{◌≡◌, ◌↔◌, ℕ, List, [], ◌∷◌, length, map, refl, ap, sym, ◌∙◌, subst, arith}
+use Rattle.std.specs.List.{AllByRecursion}
 use Rattle.std.proofs.lemmas.Option.{slice_get_within}
 use Rattle.std.proofs.lemmas.Slice.Zip.{AllZip-long}
 use Rattle.binding_terms.specs.Signature.{Signature, Fits}
 use Rattle.scheme_terms.specs.SchemeTree.{SchemeTree, local}
 use Rattle.scheme_terms.specs.Forms.{Names, Substitution, Instance}
 use Rattle.scheme_terms.specs.SchemeScope.{KnownsFit}
-use Rattle.scheme_terms.specs.Substituting.{applied, known_for, composed, followed, metas_from, knowns_from, identity, Suits, IsSaturated, IsSubstitution}
+use Rattle.scheme_terms.specs.Substituting.{applied, known_for, composed, metas_from, knowns_from, identity, Suits, IsSaturated, IsSubstitution}
 use Rattle.scheme_terms.proofs.Makings.{applied_making}
 use Rattle.scheme_terms.proofs.Identities.{identity_is_substitution, identity_changes_nothing}
 use Rattle.pattern_unify.specs.Equations.{SchemeEquation, AreToUnify}
-use Rattle.pattern_unify.specs.CommonInstance.{MakesEqual, IsSameInstance, IsCommonInstance, IsCommonGroundInstance}
+use Rattle.pattern_unify.specs.CommonInstance.{MakesEqual, IsCommonInstance, IsCommonGroundInstance}
 use Rattle.pattern_unify.specs.State.{State, Step, names_of, start, metas_but}
-use Rattle.pattern_unify.specs.Move.{goes_on, has_none}
-use Rattle.pattern_unify.specs.Run.{IsSolved, Turn, End, solved, clashed, stuck, Runs, is_solved, is_stuck, has_clash, turns}
-use Rattle.pattern_unify.specs.Laws.{IsState, StartIsState}
+use Rattle.pattern_unify.specs.Run.{IsSolved, End, solved, clashed, stuck, Runs, is_solved, is_stuck, has_clash, turns}
+use Rattle.pattern_unify.specs.Laws.{IsState}
 use Rattle.pattern_unify.specs.CommonLaws.{IsOfState, IsGroundOfState, StartHasCommonInstances}
 use Rattle.pattern_unify.proofs.TypedSuits.{typed_all_suit}
 use Rattle.pattern_unify.proofs.StepInstances.{metas_become}
@@ -151,7 +150,6 @@ solved_run_found sig names eqs final fits owed run =
     let own : IsOfState sig final final.so_far = record {
       after = identity (names_of final);
       common = record {
-        root = refl;
         scope = kept.state.knowns;
         schemes = identity_is_substitution sig (names_of final) kept.state.knowns;
         equal = subst (AllByRecursion (MakesEqual (identity (names_of final)).metas (identity (names_of final)).knowns)) (sym kept.solved_there) tt;

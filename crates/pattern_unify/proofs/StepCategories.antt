@@ -1,5 +1,5 @@
 -- What each move puts in is of the names' categories.
-use Rattle.std.proofs.Common.{◌≡◌, ℕ, Bool, List, [], ◌∷◌, ◌++◌, length, map, Some, slice_get, refl, ap, sym, ◌∙◌, subst}
+use Rattle.std.proofs.Common.{◌≡◌, ℕ, Bool, List, length, map, Some, slice_get, refl, sym, ◌∙◌, subst}
 use Rattle.std.proofs.lemmas.Option.{slice_get_within}
 use Rattle.binding_terms.specs.Signature.{Signature}
 use Rattle.binding_terms.proofs.Lists.{append_within, match_from, match_some}

@@ -1,25 +1,25 @@
 -- A step keeps the common instances that are substitutions: one of the equations before is, after the step, one of those after it, and back.
-use Rattle.std.proofs.Common.{◌≡◌, ℕ, zero, suc, ◌<◌, ◌≤◌, List, [], ◌∷◌, ◌++◌, length, map, Some, slice_get, unwrap_or, option_map, refl, ap, sym, ◌∙◌, subst, arith}
+use Rattle.std.proofs.Common.{◌≡◌, ℕ, zero, suc, ◌<◌, List, [], ◌∷◌, length, map, Some, slice_get, unwrap_or, option_map, ap, sym, ◌∙◌, subst, arith}
 use Rattle.std.specs.List.{AllByRecursion, AllZip}
 use Rattle.std.proofs.lemmas.List.{length-map}
 use Rattle.std.proofs.lemmas.Option.{slice_get-map, slice_get_within}
 use Rattle.std.proofs.lemmas.Slice.Zip.{AllZip-long}
 use Rattle.binding_terms.specs.Signature.{Signature}
 use Rattle.binding_terms.proofs.Lists.{some_within}
-use Rattle.scheme_terms.specs.SchemeTree.{SchemeTree, meta, values}
-use Rattle.scheme_terms.specs.Forms.{Names, Substitution, KnownVariable}
-use Rattle.scheme_terms.specs.SchemeScope.{IsScheme, IsKnownEntry, KnownsFit, params_scope}
-use Rattle.scheme_terms.specs.Substituting.{applied, known_for, scheme_for, composed, params, parameters, Suits, IsKnownValue, IsSubstitution}
+use Rattle.scheme_terms.specs.SchemeTree.{SchemeTree}
+use Rattle.scheme_terms.specs.Forms.{Names, Substitution}
+use Rattle.scheme_terms.specs.SchemeScope.{IsScheme, KnownsFit, params_scope}
+use Rattle.scheme_terms.specs.Substituting.{applied, known_for, composed, params, Suits, IsKnownValue, IsSubstitution}
 use Rattle.scheme_terms.specs.declared.scheme.MetaDecl.{MetaDecl}
-use Rattle.scheme_terms.proofs.SchemeFacts.{length_params, scheme_suits}
+use Rattle.scheme_terms.proofs.SchemeFacts.{scheme_suits}
 use Rattle.scheme_terms.proofs.SchemeScopes.{applied_scheme}
 use Rattle.scheme_terms.proofs.AppliedSchemes.{applied_anywhere}
 use Rattle.pattern_unify.specs.Equations.{SchemeEquation, AreSides}
 use Rattle.pattern_unify.specs.CommonInstance.{MakesEqual, IsCommonInstance}
-use Rattle.pattern_unify.specs.State.{Step, names_after, substitution_of, applied_equation, applied_known, metas_but, knowns_but}
+use Rattle.pattern_unify.specs.State.{Step, names_after, substitution_of, applied_equation, applied_known, metas_but}
 use Rattle.pattern_unify.proofs.Renaming.{KeepsCategories}
 use Rattle.pattern_unify.proofs.TypedSuits.{IsTyped}
-use Rattle.pattern_unify.proofs.SteppedSchemes.{values_suit, equal_before, equal_after, knowns_before, knowns_after}
+use Rattle.pattern_unify.proofs.SteppedSchemes.{equal_before, equal_after, knowns_before, knowns_after}
 use Rattle.pattern_unify.proofs.MovedNames.{same_by_places, metas_but_long, metas_but_there, meta_but}
 
 known_is : (ks : List ℕ) (k y : ℕ) → slice_get ks k ≡ Some y → known_for ks k ≡ y
@@ -60,7 +60,6 @@ module _ (sig : Signature) (names : Names) (fits : KnownsFit sig names) (step : 
       let after : Substitution = record { metas = ss; knowns = before.knowns; into = before.into } in
       let long : length before.knowns ≡ length names.knowns = AllZip-long _ names.knowns before.knowns common.schemes.knowns in
       record {
-        root = common.root;
         scope = common.scope;
         schemes = record {
           metas = typed;
@@ -97,11 +96,10 @@ module _ (sig : Signature) (names : Names) (fits : KnownsFit sig names) (step : 
     equal_together eqs sides h = equal_before sig names step keeps after is.metas many eqs sides h
 
     -- and back
-    pub back : (eqs : List SchemeEquation) → after.into.root ≡ names.root → KnownsFit sig after.into →
+    pub back : (eqs : List SchemeEquation) → KnownsFit sig after.into →
         AllZip (IsKnownValue (together after)) names.knowns (map (known_for after.knowns) step.knowns) →
         AllByRecursion (MakesEqual (together after).metas (together after).knowns) eqs → IsCommonInstance sig names eqs (together after)
-    back eqs root scope knowns equal = record {
-      root = root;
+    back eqs scope knowns equal = record {
       scope = scope;
       schemes = record { metas = typed_together names.metas step.metas keeps.metas; knowns = knowns };
       equal = equal;

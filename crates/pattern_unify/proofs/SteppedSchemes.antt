@@ -1,14 +1,14 @@
 -- A step of a run, and a substitution after it: both together are one substitution of the names before the step.
-use Rattle.std.proofs.Common.{◌≡◌, ℕ, zero, suc, ◌<◌, ◌≤◌, List, [], ◌∷◌, ◌++◌, length, map, Option, Some, None, MatchOption, slice_get, unwrap_or, refl, ap, sym, ◌∙◌, subst, arith}
+use Rattle.std.proofs.Common.{◌≡◌, ℕ, zero, suc, ◌≤◌, List, [], ◌∷◌, length, map, slice_get, unwrap_or, refl, ap, sym, ◌∙◌, subst, arith}
 use Rattle.std.specs.List.{AllByRecursion, AllZip}
 use Rattle.std.proofs.lemmas.List.{length-map}
 use Rattle.std.proofs.lemmas.Slice.Zip.{AllZip-long}
-use Rattle.binding_terms.specs.Signature.{Signature, Place}
+use Rattle.binding_terms.specs.Signature.{Signature}
 use Rattle.binding_terms.proofs.Lists.{each_map, match_map}
 use Rattle.scheme_terms.specs.SchemeTree.{SchemeTree}
-use Rattle.scheme_terms.specs.Forms.{Names, Substitution, SchemeEntry, KnownVariable}
-use Rattle.scheme_terms.specs.SchemeScope.{IsScheme, IsKnownEntry, KnownsFit, params_scope}
-use Rattle.scheme_terms.specs.Substituting.{applied, known_for, composed, Suits, applied_entry, IsKnownValue, IsSubstitution}
+use Rattle.scheme_terms.specs.Forms.{Names, Substitution, KnownVariable}
+use Rattle.scheme_terms.specs.SchemeScope.{IsScheme, IsKnownEntry, params_scope}
+use Rattle.scheme_terms.specs.Substituting.{applied, known_for, composed, Suits, applied_entry, IsKnownValue}
 use Rattle.scheme_terms.specs.declared.scheme.MetaDecl.{MetaDecl}
 use Rattle.scheme_terms.proofs.AppliedSchemes.{applied_twice}
 use Rattle.scheme_terms.proofs.Compositions.{same_arguments, entry_with}

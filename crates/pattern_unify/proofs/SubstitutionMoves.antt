@@ -1,36 +1,31 @@
 -- What a common instance that is a substitution is after a bind, a meet or a prune, and after a join.
-use Rattle.std.proofs.Common.{◌≡◌, ◌⊎◌, inl, inr, ℕ, zero, suc, ◌+◌, ◌<◌, ◌≤◌, Bool, List, [], ◌∷◌, ◌++◌, length, map, Some, slice_get, unwrap_or, append-nil, refl, ap, sym, ◌∙◌, subst, arith}
+use Rattle.std.proofs.Common.{◌≡◌, ◌⊎◌, inl, inr, ℕ, ◌<◌, ◌≤◌, Bool, List, [], ◌∷◌, ◌++◌, length, map, Some, slice_get, unwrap_or, append-nil, refl, ap, sym, ◌∙◌, subst, arith}
 use Rattle.std.specs.List.{AllByRecursion, AllZip}
 use Rattle.std.proofs.lemmas.Bool.{cases_lt}
 use Rattle.std.proofs.lemmas.List.{length-map}
 use Rattle.std.proofs.lemmas.Option.{slice_get_within}
 use Rattle.std.proofs.lemmas.Slice.Zip.{AllZip-long}
 use Rattle.binding_terms.specs.Signature.{Signature}
-use Rattle.binding_terms.proofs.Lists.{append_within, some_within, zip_push, some_once, match_some, match_at}
-use Rattle.scheme_terms.specs.SchemeTree.{SchemeTree, meta, local, Values, values, listed, filled, AreDistinctLocals}
+use Rattle.binding_terms.proofs.Lists.{append_within, zip_push, some_once}
+use Rattle.scheme_terms.specs.SchemeTree.{SchemeTree, local, values, filled}
 use Rattle.scheme_terms.specs.Forms.{Names, Substitution, KnownVariable}
-use Rattle.scheme_terms.specs.SchemeScope.{IsScheme, AreValues, KnownsFit, params_scope}
-use Rattle.scheme_terms.specs.Substituting.{scheme_for, known_for, argument_or_local, applied, composed, params, parameters, knowns_from, LocalsBelow, ValuesBelow, Suits, IsKnownValue, IsSubstitution}
-use Rattle.scheme_terms.specs.Demands.{numbers, lowered}
+use Rattle.scheme_terms.specs.SchemeScope.{IsScheme, KnownsFit, params_scope}
+use Rattle.scheme_terms.specs.Substituting.{scheme_for, known_for, argument_or_local, applied, composed, params, parameters, knowns_from, Suits, IsSubstitution}
+use Rattle.scheme_terms.specs.Demands.{lowered}
 use Rattle.scheme_terms.specs.declared.scheme.MetaDecl.{MetaDecl}
 use Rattle.scheme_terms.proofs.Options.{zip_at}
 use Rattle.scheme_terms.proofs.Makings.{Making, applied_making}
 use Rattle.scheme_terms.proofs.StrictTyped.{strict_is_scheme}
 use Rattle.scheme_terms.proofs.SchemeFacts.{length_params}
-use Rattle.pattern_unify.specs.Equations.{SchemeEquation, AreSides}
-use Rattle.pattern_unify.specs.CommonInstance.{MakesEqual, IsCommonInstance}
-use Rattle.pattern_unify.specs.Patterns.{over_parameters, marked}
-use Rattle.pattern_unify.specs.State.{State, Step, names_of, names_after, substitution_of, after_step, with_equations, applied_equation, applied_known, becomes, becomes_new, joins_to, decl_with, metas_but, knowns_but}
-use Rattle.pattern_unify.specs.CommonLaws.{IsOfState}
+use Rattle.pattern_unify.specs.Patterns.{marked}
+use Rattle.pattern_unify.specs.State.{Step, names_after, substitution_of, applied_known, becomes_new, decl_with, metas_but}
 use Rattle.pattern_unify.proofs.Renaming.{KeepsCategories}
 use Rattle.pattern_unify.proofs.KeptParameters.{kept_numbers, restored, marked_distinct}
 use Rattle.pattern_unify.proofs.MoveValues.{HasParametersAmong}
 use Rattle.pattern_unify.proofs.TypedSuits.{IsTyped, typed_all_suit}
-use Rattle.pattern_unify.proofs.SteppedSchemes.{found_before}
 use Rattle.pattern_unify.proofs.StepCategories.{on_kept, new_there, new_typed, new_categories}
-use Rattle.pattern_unify.proofs.StepInstances.{metas_become, forth}
+use Rattle.pattern_unify.proofs.StepInstances.{metas_become}
 use Rattle.pattern_unify.proofs.MovedNames.{takes_own, meta_but, meta_but_there, meta_but_other, knowns_become, knowns_but_none}
-use Rattle.pattern_unify.proofs.StatesKept.{last_at}
 
 -- a number is another or not
 pub same_or_other : (m n : ℕ) → (m ≡ n) ⊎ (m ≡ n → ⊥)

@@ -1,44 +1,40 @@
 -- A turn keeps the common instances that are substitutions.
-use Rattle.std.proofs.Common.{◌≡◌, ◌⊎◌, ◌↔◌, inl, inr, ℕ, zero, suc, ◌<◌, ◌==◌, Bool, true, false, if◌then◌else◌, List, [], ◌∷◌, ◌++◌, length, map, Some, MatchOption, slice_get, unwrap_or, append-nil, refl, ap, sym, ◌∙◌, subst, arith}
+use Rattle.std.proofs.Common.{◌≡◌, ◌↔◌, ℕ, Bool, List, [], ◌∷◌, ◌++◌, length, map, Some, slice_get, unwrap_or, append-nil, refl, ap, sym, ◌∙◌, subst}
 use Rattle.std.specs.List.{AllByRecursion, AllZip}
-use Rattle.std.proofs.lemmas.Bool.Decides.{nat_tests}
 use Rattle.std.proofs.lemmas.List.{length-map}
 use Rattle.std.proofs.lemmas.Slice.Zip.{AllZip-long}
-use Rattle.binding_terms.specs.Signature.{Signature, Fits, Place}
-use Rattle.binding_terms.proofs.Lists.{all_at, all_middle, match_some, match_from, match_at, some_once, cons_head, cons_tail}
-use Rattle.scheme_terms.specs.SchemeTree.{SchemeTree, meta, known, local, Values, values, con, Parts, AreDistinctLocals}
-use Rattle.scheme_terms.specs.Forms.{Names, Substitution, KnownVariable, SchemeEntry}
-use Rattle.scheme_terms.specs.SchemeScope.{IsScheme, AreValues, AreSchemes, IsKnownEntry, KnownsFit, params_scope}
-use Rattle.scheme_terms.specs.Substituting.{scheme_for, known_for, applied, composed, params, metas_from, knowns_from, LocalsBelow, ValuesBelow, Suits, applied_entry, IsKnownValue, IsSubstitution}
+use Rattle.binding_terms.specs.Signature.{Signature, Place}
+use Rattle.binding_terms.proofs.Lists.{all_middle, cons_head, cons_tail}
+use Rattle.scheme_terms.specs.SchemeTree.{SchemeTree, meta, known, local, Values, con, Parts}
+use Rattle.scheme_terms.specs.Forms.{Names, Substitution}
+use Rattle.scheme_terms.specs.SchemeScope.{IsScheme, AreSchemes}
+use Rattle.scheme_terms.specs.Substituting.{scheme_for, known_for, applied, composed, params, knowns_from, IsKnownValue, IsSubstitution}
 use Rattle.scheme_terms.specs.Demands.{numbers}
 use Rattle.scheme_terms.specs.declared.scheme.MetaDecl.{MetaDecl}
-use Rattle.scheme_terms.proofs.Options.{zip_at}
 use Rattle.scheme_terms.proofs.Makings.{Making, applied_making}
 use Rattle.scheme_terms.proofs.Compositions.{entry_with}
 use Rattle.scheme_terms.proofs.SchemeFacts.{length_values, scheme_below, scheme_saturated}
 use Rattle.scheme_terms.proofs.AppliedSchemes.{applied_filled}
 use Rattle.pattern_unify.specs.Equations.{SchemeEquation, AreSides}
-use Rattle.pattern_unify.specs.CommonInstance.{MakesEqual, IsCommonInstance}
-use Rattle.pattern_unify.specs.Patterns.{over_parameters, parameter_at, common_arguments, HasLocalsAmong}
+use Rattle.pattern_unify.specs.CommonInstance.{MakesEqual}
+use Rattle.pattern_unify.specs.Patterns.{over_parameters, parameter_at, common_arguments}
 use Rattle.pattern_unify.specs.Pruning.{FirstPrunable}
-use Rattle.pattern_unify.specs.State.{State, Step, names_of, names_after, substitution_of, after_step, with_equations, applied_equation, applied_known, becomes, becomes_new, joins_to, metas_but, knowns_but}
-use Rattle.pattern_unify.specs.Moves.{Row, delete, decompose, clash, join, meet, prune, bind, Direction, left_first, right_first, named_first, named_second, CanMeet, CanPrune, CanBind}
-use Rattle.pattern_unify.specs.Move.{Next, goes_on, has_none, Move, deletes, decomposes, clashes, joins, meets, prunes, binds, argument_equations, production_binders, production_slots, entry_equations, entry_args}
-use Rattle.pattern_unify.specs.Run.{Turn}
+use Rattle.pattern_unify.specs.State.{State, Step, names_of, names_after, substitution_of, after_step, with_equations, applied_known, becomes, becomes_new}
+use Rattle.pattern_unify.specs.Moves.{Direction, left_first, right_first, named_first, named_second, CanMeet, CanPrune, CanBind}
+use Rattle.pattern_unify.specs.Move.{argument_equations, production_binders, production_slots, entry_equations}
 use Rattle.pattern_unify.specs.Laws.{IsState}
-use Rattle.pattern_unify.specs.CommonLaws.{IsOfState, TurnKeepsCommonInstances}
+use Rattle.pattern_unify.specs.CommonLaws.{IsOfState}
 use Rattle.pattern_unify.proofs.Renaming.{KeepsCategories}
-use Rattle.pattern_unify.proofs.Fewer.{meta_typed, meta_declared}
+use Rattle.pattern_unify.proofs.Fewer.{meta_typed}
 use Rattle.pattern_unify.proofs.KeptParameters.{kept_numbers}
-use Rattle.pattern_unify.proofs.MoveValues.{HasParametersAmong, numbers_long, met_value, pruned_value, bound_value, renamed_to}
-use Rattle.pattern_unify.proofs.TypedSuits.{IsTyped, typed_all_suit}
-use Rattle.pattern_unify.proofs.SteppedSchemes.{found_before, known_after}
-use Rattle.pattern_unify.proofs.StepCategories.{new_categories, bind_categories, join_categories}
-use Rattle.pattern_unify.proofs.StepInstances.{forth, back, metas_become, knowns_together, equal_together}
-use Rattle.pattern_unify.proofs.MovedNames.{zip_there, knowns_become, knowns_zip, knowns_but_there, knowns_but_long, known_but, metas_but_none}
-use Rattle.pattern_unify.proofs.ReplacedEquations.{IsSolvedBy, replaced_all, restored_all, new_ones, decomposed, composed_again}
-use Rattle.pattern_unify.proofs.SubstitutionMoves.{knowns_stay, each_has_value, same_together, with_new, all_typed, new_together}
-use Rattle.pattern_unify.proofs.StatesKept.{parts_of_production, arguments_sides, entry_places, entry_typed, entries_sides, args_at, AreTwo, turned, joined_two}
+use Rattle.pattern_unify.proofs.MoveValues.{HasParametersAmong, numbers_long, met_value, pruned_value, bound_value}
+use Rattle.pattern_unify.proofs.TypedSuits.{IsTyped}
+use Rattle.pattern_unify.proofs.SteppedSchemes.{found_before}
+use Rattle.pattern_unify.proofs.StepCategories.{new_categories, bind_categories}
+use Rattle.pattern_unify.proofs.StepInstances.{forth, back, knowns_together, equal_together}
+use Rattle.pattern_unify.proofs.ReplacedEquations.{IsSolvedBy, replaced_all, restored_all, decomposed, composed_again}
+use Rattle.pattern_unify.proofs.SubstitutionMoves.{knowns_stay, same_together, with_new, all_typed, new_together}
+use Rattle.pattern_unify.proofs.StatesKept.{parts_of_production}
 use Rattle.pattern_unify.proofs.TurnFalling.{first_typed, second_typed}
 
 -- the sides in a direction become the same
@@ -99,7 +95,7 @@ module _ (sig : Signature) (names : Names) (st : State) (state : IsState sig nam
         AllZip (IsKnownValue (composed (substitution_of here step) o.after)) here.knowns (map (known_for o.after.knowns) step.knowns) → IsOfState sig (with_equations eqs st) by
     unstepped o knowns = record {
       after = composed (substitution_of here step) o.after;
-      common = back sig here state.knowns step keeps o.after o.common.schemes eqs o.common.root o.common.scope knowns
+      common = back sig here state.knowns step keeps o.after o.common.schemes eqs o.common.scope knowns
           (equal_together sig here state.knowns step keeps o.after o.common.schemes eqs sides o.common.equal);
       same = sym (found_before sig here step keeps o.after o.common.schemes.metas (many_knowns o) names.metas st.so_far state.values) ∙ o.same;
     }
@@ -118,7 +114,6 @@ module _ (sig : Signature) (names : Names) (st : State) (state : IsState sig nam
     replaces to o = record {
       after = o.after;
       common = record {
-        root = o.common.root;
         scope = o.common.scope;
         schemes = o.common.schemes;
         equal = replaced_all (MakesEqual o.after.metas o.after.knowns) before e rest new
@@ -132,7 +127,6 @@ module _ (sig : Signature) (names : Names) (st : State) (state : IsState sig nam
     restores o from = record {
       after = o.after;
       common = record {
-        root = o.common.root;
         scope = o.common.scope;
         schemes = o.common.schemes;
         equal = subst (AllByRecursion (MakesEqual o.after.metas o.after.knowns)) (sym at)

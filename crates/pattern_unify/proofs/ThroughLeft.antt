@@ -1,18 +1,18 @@
 -- Each common instance that is a substitution is what a solved run has found, over the names that are left, with one third after it.
-use Rattle.std.proofs.Common.{◌≡◌, ◌⊎◌, inl, inr, ℕ, zero, suc, ◌<◌, Bool, true, List, [], ◌∷◌, ◌++◌, length, map, Some, MatchOption, slice_get, unwrap_or, option_map, refl, ap, sym, ◌∙◌, subst, arith}
+use Rattle.std.proofs.Common.{◌≡◌, inl, inr, ℕ, ◌<◌, true, List, [], ◌∷◌, length, map, Some, slice_get, unwrap_or, refl, ap, sym, ◌∙◌, subst, arith}
 use Rattle.std.specs.List.{AllByRecursion, AllZip}
 use Rattle.std.proofs.lemmas.Option.{slice_get_within}
 use Rattle.std.proofs.lemmas.Slice.Zip.{AllZip-long}
 use Rattle.binding_terms.specs.Numbered.{AnyByRecursion}
 use Rattle.binding_terms.specs.Signature.{Signature, Place}
-use Rattle.binding_terms.proofs.Lists.{all_at, cons_head, cons_tail, map_same, match_map, some_once, some_within}
-use Rattle.scheme_terms.specs.SchemeTree.{SchemeTree, meta, local, values, StrictIn}
-use Rattle.scheme_terms.specs.Forms.{Names, Substitution, SchemeEntry, KnownVariable}
-use Rattle.scheme_terms.specs.SchemeScope.{IsScheme, AreSchemes, IsKnownEntry, KnownsFit, params_scope}
-use Rattle.scheme_terms.specs.Substituting.{scheme_for, known_for, applied, composed, params, parameters, Suits, IsSaturated, applied_entry, IsKnownValue, IsSubstitution}
+use Rattle.binding_terms.proofs.Lists.{all_at, cons_head, cons_tail, map_same, match_map, some_within}
+use Rattle.scheme_terms.specs.SchemeTree.{SchemeTree, meta, values, StrictIn}
+use Rattle.scheme_terms.specs.Forms.{Names, Substitution, KnownVariable}
+use Rattle.scheme_terms.specs.SchemeScope.{AreSchemes, IsKnownEntry, KnownsFit, params_scope}
+use Rattle.scheme_terms.specs.Substituting.{scheme_for, known_for, applied, composed, params, parameters, IsSaturated, applied_entry, IsKnownValue, IsSubstitution}
 use Rattle.scheme_terms.specs.declared.scheme.MetaDecl.{MetaDecl}
 use Rattle.scheme_terms.proofs.Options.{zip_at}
-use Rattle.scheme_terms.proofs.Makings.{Making, applied_making, demand_is_value, strict_demands}
+use Rattle.scheme_terms.proofs.Makings.{applied_making, demand_is_value, strict_demands}
 use Rattle.scheme_terms.proofs.SchemeFacts.{scheme_saturated, scheme_below, scheme_suits}
 use Rattle.scheme_terms.proofs.AppliedSchemes.{applied_anywhere}
 use Rattle.scheme_terms.proofs.Compositions.{entry_with}
@@ -28,9 +28,9 @@ use Rattle.pattern_unify.proofs.StrictKept.{strict_kept_in}
 use Rattle.pattern_unify.proofs.StatesKept.{entry_places, entry_typed}
 use Rattle.pattern_unify.proofs.LinesKept.{saturated, number_mapped}
 use Rattle.pattern_unify.proofs.PickedLists.{picked_at, picked_back, zip_picked}
-use Rattle.pattern_unify.proofs.Renumbered.{renumbered, renumbered_agree}
+use Rattle.pattern_unify.proofs.Renumbered.{renumbered_agree}
 use Rattle.pattern_unify.proofs.RunInstances.{Found}
-use Rattle.pattern_unify.proofs.LeftInstances.{IsLeft, IsKnownLeft, OnlyLeft, to_meta, to_known, left_line, left_declared, known_left_declared, found_only, found_knowns_left, entry_only, put, put_known, is_renumbered, listed_back, left_is_common}
+use Rattle.pattern_unify.proofs.LeftInstances.{OnlyLeft, left_line, left_declared, known_left_declared, found_only, found_knowns_left, entry_only, put, put_known, is_renumbered, listed_back, left_is_common}
 
 -- functions that agree on a list agree on what is in it
 pub numbers_agree : {A : Type 0} (f g : ℕ → A) (ks : List ℕ) (x : ℕ) → map f ks ≡ map g ks → AnyByRecursion (λ j. j ≡ x) ks → f x ≡ g x

@@ -18,8 +18,8 @@ use Rattle.pattern_unify.specs.State.{State, names_of, after_step, with_equation
 use Rattle.pattern_unify.specs.Moves.{Row, delete, decompose, clash, join, meet, prune, bind, Direction, left_first, right_first, named_first, named_second, CanMeet, CanBind}
 use Rattle.pattern_unify.specs.Move.{Next, goes_on, has_none, Move, deletes, decomposes, clashes, joins, meets, prunes, binds, argument_equations, entry_equations, entry_args, production_binders, production_slots}
 use Rattle.pattern_unify.specs.Run.{IsFirstMove}
-use Rattle.pattern_unify.specs.Measure.{known_stands, known_stands_in_values, known_stands_in_parts, any_scheme, sides, entry_schemes, schemes_of, metas_weight, knowns_weight, scheme_size, parts_size, equations_size, Measure, measure, IsBelow}
-use Rattle.pattern_unify.specs.Laws.{TurnFalls}
+use Rattle.pattern_unify.specs.Measure.{known_stands, known_stands_in_values, known_stands_in_parts, any_scheme, sides, entry_schemes, schemes_of, metas_weight, knowns_weight, scheme_size, parts_size, equations_size, Measure, measure, IsBelow, Number, number_of_metas, number_of_knowns, size_of_equations, lessened_by, FallsBy}
+use Rattle.pattern_unify.specs.Laws.{TurnFalls, TurnFallsBy}
 use Rattle.pattern_unify.proofs.Standing.{or_cases, or_first, or_second}
 use Rattle.pattern_unify.proofs.Falling.{weight_less, bind_falls, new_falls, side_stands, first_side, second_side}
 use Rattle.pattern_unify.proofs.Fewer.{pruned_fewer, met_fewer, meta_typed, meta_declared}
@@ -133,32 +133,33 @@ less_or_same a b h = elim (cases_order a b) [
   | inr o ↦ elim o [ inl l ↦ inl l | inr g ↦ absurd (omega (arith, g, h)) ]
 ]
 
-size_below : (a b : Measure) → a.metas ≤ b.metas → a.knowns ≤ b.knowns → a.size < b.size → IsBelow a b
-size_below a b metas knowns size = elim (less_or_same a.metas b.metas metas) [
+-- what falls by a number falls
+falls_below : (number : Number) (a b : Measure) → FallsBy number a b → IsBelow a b
+falls_below number_of_metas a b falls = inl falls
+falls_below number_of_knowns a b falls = elim (less_or_same a.metas b.metas falls.0) [ inl l ↦ inl l | inr e ↦ inr (e, inl falls.1) ]
+falls_below size_of_equations a b falls = elim (less_or_same a.metas b.metas falls.0) [
   | inl l ↦ inl l
-  | inr e ↦ inr (e, elim (less_or_same a.knowns b.knowns knowns) [ inl l ↦ inl l | inr f ↦ inr (f, size) ])
+  | inr e ↦ inr (e, elim (less_or_same a.knowns b.knowns falls.1) [ inl l ↦ inl l | inr f ↦ inr (f, falls.2) ])
 ]
-
-knowns_below : (a b : Measure) → a.metas ≤ b.metas → a.knowns < b.knowns → IsBelow a b
-knowns_below a b metas knowns = elim (less_or_same a.metas b.metas metas) [ inl l ↦ inl l | inr e ↦ inr (e, inl knowns) ]
 
 -- new equations in the place of one, which hold nothing new and are smaller
 
 replaced_falls : (st : State) (before : List SchemeEquation) (e : SchemeEquation) (rest new : List SchemeEquation) → st.equations ≡ before ++ e ∷ rest →
     ((x : ℕ) → AnyByRecursion (OccursIn x) (sides new) → OccursIn x e.left ⊎ OccursIn x e.right) →
     ((x : ℕ) → AnyByRecursion (KnownIn x) (sides new) → KnownIn x e.left ⊎ KnownIn x e.right) →
-    equations_size new < scheme_size e.left + scheme_size e.right → IsBelow (measure (with_equations (before ++ (new ++ rest)) st)) (measure st)
-replaced_falls st before e rest new at metas knowns size =
-    size_below (measure (with_equations (before ++ (new ++ rest)) st)) (measure st)
-    (weight_less (schemes_of (with_equations (before ++ (new ++ rest)) st)) (schemes_of st) 0 (names_of st).metas
-    (λ m from below h. any_replaced (OccursIn m) st before e rest new at (λ k. inl (metas m k)) h))
-    (knowns_less (schemes_of (with_equations (before ++ (new ++ rest)) st)) (schemes_of st) 0 (names_of st).knowns
-    (λ m from below h. any_replaced (KnownIn m) st before e rest new at (λ k. inl (knowns m k)) h))
-    (let all : equations_size st.equations ≡ equations_size (before ++ e ∷ rest) = ap equations_size at in
-    let one = size_append before (e ∷ rest) in
-    let two = size_append before (new ++ rest) in
-    let three = size_append new rest in
-    omega (arith, all, one, two, three, size))
+    equations_size new < scheme_size e.left + scheme_size e.right →
+    FallsBy size_of_equations (measure (with_equations (before ++ (new ++ rest)) st)) (measure st)
+replaced_falls st before e rest new at metas knowns size = (
+  weight_less (schemes_of (with_equations (before ++ (new ++ rest)) st)) (schemes_of st) 0 (names_of st).metas
+      (λ m from below h. any_replaced (OccursIn m) st before e rest new at (λ k. inl (metas m k)) h),
+  knowns_less (schemes_of (with_equations (before ++ (new ++ rest)) st)) (schemes_of st) 0 (names_of st).knowns
+      (λ m from below h. any_replaced (KnownIn m) st before e rest new at (λ k. inl (knowns m k)) h),
+  (let all : equations_size st.equations ≡ equations_size (before ++ e ∷ rest) = ap equations_size at in
+      let one = size_append before (e ∷ rest) in
+      let two = size_append before (new ++ rest) in
+      let three = size_append new rest in
+      omega (arith, all, one, two, three, size)),
+)
 
 -- a join
 
@@ -235,21 +236,21 @@ known_side x st before e rest at h =
 
 join_falls : (st : State) (before : List SchemeEquation) (e : SchemeEquation) (rest : List SchemeEquation) (low high : ℕ) → st.equations ≡ before ++ e ∷ rest → low < high →
     high < length (names_of st).knowns → KnownIn low e.left ⊎ KnownIn low e.right → KnownIn high e.left ⊎ KnownIn high e.right →
-    IsBelow (measure (joined st before rest low high)) (measure st)
-join_falls st before e rest low high at order below has_low has_high =
-    knowns_below (measure (joined st before rest low high)) (measure st)
-    (subst (λ ds. metas_weight (schemes_of (joined st before rest low high)) 0 ds ≤ metas_weight (schemes_of st) 0 (names_of st).metas) (sym (append-nil (names_of st).metas))
-    (weight_less (schemes_of (joined st before rest low high)) (schemes_of st) 0 (names_of st).metas
-    (λ m from within h. any_replaced (OccursIn m) st before e rest (entry_equations (entry_args (names_of st) low) (entry_args (names_of st) high)) at
-    (λ k. inr (any_in_entries (OccursIn m) (names_of st) low high k)) (joined_metas (middle st before rest low high) high low m h))))
-    (let same = knowns_mapped (schemes_of (joined st before rest low high)) 0
-    (applied_known (joins_to high low (names_of st)).metas (joins_to high low (names_of st)).knowns) (names_of st).knowns in
-    let less = knowns_gone (schemes_of (joined st before rest low high)) (schemes_of st) 0 (names_of st).knowns high high
-    (λ m from within h. (known_joined st before e rest low high m at order below (known_side low st before e rest at has_low) h).0)
-    below (omega arith)
-    (λ h. (known_joined st before e rest low high high at order below (known_side low st before e rest at has_low) h).1 refl)
-    (known_side high st before e rest at has_high) in
-    omega (arith, same, less))
+    FallsBy number_of_knowns (measure (joined st before rest low high)) (measure st)
+join_falls st before e rest low high at order below has_low has_high = (
+  subst (λ ds. metas_weight (schemes_of (joined st before rest low high)) 0 ds ≤ metas_weight (schemes_of st) 0 (names_of st).metas) (sym (append-nil (names_of st).metas))
+      (weight_less (schemes_of (joined st before rest low high)) (schemes_of st) 0 (names_of st).metas
+      (λ m from within h. any_replaced (OccursIn m) st before e rest (entry_equations (entry_args (names_of st) low) (entry_args (names_of st) high)) at
+      (λ k. inr (any_in_entries (OccursIn m) (names_of st) low high k)) (joined_metas (middle st before rest low high) high low m h))),
+  let same = knowns_mapped (schemes_of (joined st before rest low high)) 0
+      (applied_known (joins_to high low (names_of st)).metas (joins_to high low (names_of st)).knowns) (names_of st).knowns in
+      let less = knowns_gone (schemes_of (joined st before rest low high)) (schemes_of st) 0 (names_of st).knowns high high
+      (λ m from within h. (known_joined st before e rest low high m at order below (known_side low st before e rest at has_low) h).0)
+      below (omega arith)
+      (λ h. (known_joined st before e rest low high high at order below (known_side low st before e rest at has_low) h).1 refl)
+      (known_side high st before e rest at has_high) in
+      omega (arith, same, less),
+)
 
 -- the sides of a turn's equation are schemes
 
@@ -285,12 +286,12 @@ abbrev goes : Next → ℕ
 goes (goes_on next) = 1
 goes has_none = 0
 
-abbrev falls_to : State → State → Type 0
-falls_to st next = IsBelow (measure next) (measure st)
+abbrev falls_to : Row → State → State → Type 0
+falls_to row st next = FallsBy (lessened_by row) (measure next) (measure st)
 
 -- the state that a move leads to
-led : (st next result : State) → goes_on next ≡ goes_on result → falls_to st result → falls_to st next
-led st next result same h = subst (falls_to st) (sym (ap (next_state st) same)) h
+led : (row : Row) (st next result : State) → goes_on next ≡ goes_on result → falls_to row st result → falls_to row st next
+led row st next result same h = subst (falls_to row st) (sym (ap (next_state st) same)) h
 
 known_left : (x : ℕ) (e : SchemeEquation) → e.left ≡ known x → KnownIn x e.left ⊎ KnownIn x e.right
 known_left x e h = inl (subst (KnownIn x) (sym h) refl)
@@ -300,25 +301,25 @@ known_right x e h = inr (subst (KnownIn x) (sym h) refl)
 
 move_falls : (sig : Signature) (st : State) (before : List SchemeEquation) (e : SchemeEquation) (rest : List SchemeEquation) (direction : Direction) (next : State)
     (row : Row) → st.equations ≡ before ++ e ∷ rest → AreSides sig (names_of st) e → IsFirstMove (names_of st) e row direction →
-    Move sig st before e rest direction (goes_on next) row → falls_to st next
+    Move sig st before e rest direction (goes_on next) row → falls_to row st next
 move_falls sig st before e rest direction next delete at typed first (deletes a h) =
     let left = size_positive e.left in
-    led st next (with_equations (before ++ rest) st) h
+    led delete st next (with_equations (before ++ rest) st) h
     (replaced_falls st before e rest [] at (λ x k. absurd k) (λ x k. absurd k) (omega (arith, left)))
 move_falls sig st before e rest direction next decompose at typed first (decomposes p xs ys l r h) =
     let less = parts_less e.locals (production_binders sig p) (production_slots sig p) xs ys in
     let one : scheme_size e.left ≡ suc (parts_size xs) = ap scheme_size l in
     let two : scheme_size e.right ≡ suc (parts_size ys) = ap scheme_size r in
-    led st next (with_equations (before ++ (argument_equations sig e p xs ys ++ rest)) st) h
+    led decompose st next (with_equations (before ++ (argument_equations sig e p xs ys ++ rest)) st) h
     (replaced_falls st before e rest (argument_equations sig e p xs ys) at (λ x. occurs_decomposed sig x e p xs ys l r) (λ x. known_decomposed sig x e p xs ys l r)
     (omega (arith, less, one, two)))
 move_falls sig st before e rest direction next clash at typed first (clashes a h) = absurd (omega (arith, ap goes h))
 move_falls sig st before e rest direction next join at typed first (joins low high order (inl k) a h) =
-    led st next (joined st before rest low high) h
+    led join st next (joined st before rest low high) h
     (join_falls st before e rest low high at order (declared_known sig (names_of st) e.locals typed.0 high (subst (IsScheme sig (names_of st) e.locals typed.0) k.1 typed.2))
     (known_left low e k.0) (known_right high e k.1))
 move_falls sig st before e rest direction next join at typed first (joins low high order (inr k) a h) =
-    led st next (joined st before rest low high) h
+    led join st next (joined st before rest low high) h
     (join_falls st before e rest low high at order (declared_known sig (names_of st) e.locals typed.0 high (subst (IsScheme sig (names_of st) e.locals typed.0) k.0 typed.1))
     (known_right low e k.1) (known_left high e k.0))
 move_falls sig st before e rest direction next meet at typed first (meets m vs ws decl l r declared a h) =
@@ -326,26 +327,29 @@ move_falls sig st before e rest direction next meet at typed first (meets m vs w
     let two : IsScheme sig (names_of st) e.locals typed.0 (meta m ws) = subst (IsScheme sig (names_of st) e.locals typed.0) r (second_typed sig (names_of st) direction e typed) in
     let patterns : CanMeet (meta m vs) (meta m ws) = subst (λ s. CanMeet s (meta m ws)) l (subst (λ t. CanMeet (named_first direction e) t) r a) in
     let differ : vs ≡ ws → ⊥ = λ same. first.no_earlier delete left_first (omega arith) (sides_same direction e (l ∙ (ap (meta m) same ∙ sym r))) in
-    led st next (after_step (becomes_new m decl (common_arguments vs ws) (names_of st)) st) h
-    (inl (new_falls st m decl (common_arguments vs ws) declared
+    led meet st next (after_step (becomes_new m decl (common_arguments vs ws) (names_of st)) st) h
+    (new_falls st m decl (common_arguments vs ws) declared
     (side_stands m st before e rest at (first_side m direction e (subst (OccursIn m) (sym l) (inl refl))))
     (met_fewer sig (names_of st) e.locals decl.params vs ws (meta_typed sig (names_of st) e.locals typed.0 m vs decl one declared)
-    (meta_typed sig (names_of st) e.locals typed.0 m ws decl two declared) patterns.1 patterns.2 differ)))
+    (meta_typed sig (names_of st) e.locals typed.0 m ws decl two declared) patterns.1 patterns.2 differ))
 move_falls sig st before e rest direction next prune at typed first (prunes m n vs keeps decl l a found declared h) =
-    led st next (after_step (becomes_new n decl keeps (names_of st)) st) h
-    (inl (new_falls st n decl keeps declared
+    led prune st next (after_step (becomes_new n decl keeps (names_of st)) st) h
+    (new_falls st n decl keeps declared
     (side_stands n st before e rest at (second_side n direction e (first_occurs m vs 0 (named_second direction e) n keeps found)))
-    (pruned_fewer sig (names_of st) e.locals typed.0 m vs 0 (named_second direction e) n keeps decl (second_typed sig (names_of st) direction e typed) found declared)))
+    (pruned_fewer sig (names_of st) e.locals typed.0 m vs 0 (named_second direction e) n keeps decl (second_typed sig (names_of st) direction e typed) found declared))
 move_falls sig st before e rest direction next bind at typed first (binds m vs l a h) =
     let one : IsScheme sig (names_of st) e.locals typed.0 (meta m vs) = subst (IsScheme sig (names_of st) e.locals typed.0) l (first_typed sig (names_of st) direction e typed) in
     let declared = meta_declared sig (names_of st) e.locals typed.0 m vs one in
     let pattern : CanBind (meta m vs) (named_second direction e) = subst (λ s. CanBind s (named_second direction e)) l a in
-    led st next (after_step (becomes m (over_parameters vs (named_second direction e)) (names_of st)) st) h
-    (inl (subst (λ ds. metas_weight (schemes_of (after_step (becomes m (over_parameters vs (named_second direction e)) (names_of st)) st)) 0 ds
+    led bind st next (after_step (becomes m (over_parameters vs (named_second direction e)) (names_of st)) st) h
+    (subst (λ ds. metas_weight (schemes_of (after_step (becomes m (over_parameters vs (named_second direction e)) (names_of st)) st)) 0 ds
     < metas_weight (schemes_of st) 0 (names_of st).metas) (sym (append-nil (names_of st).metas))
-    (bind_falls st before e rest direction m vs declared.0 at l declared.1 pattern.1)))
+    (bind_falls st before e rest direction m vs declared.0 at l declared.1 pattern.1))
 
-pub turn_falls : TurnFalls
-turn_falls sig names st next fits state turn =
+pub turn_falls_by : TurnFallsBy
+turn_falls_by sig names st next fits state turn =
     move_falls sig st turn.before turn.e turn.rest turn.direction next turn.row turn.at
     (all_middle (AreSides sig (names_of st)) turn.before turn.rest turn.e (subst (AllByRecursion (AreSides sig (names_of st))) turn.at state.sides)) turn.first turn.moves
+
+pub turn_falls : TurnFalls
+turn_falls sig names st next fits state turn = falls_below (lessened_by turn.row) (measure next) (measure st) (turn_falls_by sig names st next fits state turn)

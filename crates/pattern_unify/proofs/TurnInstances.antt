@@ -1,14 +1,13 @@
 -- A turn keeps the common instances that are substitutions, and at the start these are the common instances of the equations.
-use Rattle.std.proofs.Common.{◌≡◌, ◌⊎◌, ◌↔◌, inl, inr, ℕ, List, [], ◌∷◌, ◌++◌, refl, ap, sym, ◌∙◌, subst, arith}
-use Rattle.binding_terms.specs.Signature.{Signature, Fits}
-use Rattle.scheme_terms.specs.SchemeTree.{SchemeTree, meta, known}
+use Rattle.std.proofs.Common.{◌≡◌, ◌↔◌, inl, inr, ℕ, List, ◌∷◌, ◌++◌, ap, sym, subst, arith}
+use Rattle.binding_terms.specs.Signature.{Signature}
+use Rattle.scheme_terms.specs.SchemeTree.{meta}
 use Rattle.scheme_terms.specs.Forms.{Names, Substitution}
 use Rattle.pattern_unify.specs.Equations.{SchemeEquation}
 use Rattle.pattern_unify.specs.Patterns.{over_parameters, common_arguments}
 use Rattle.pattern_unify.specs.State.{State, names_of, after_step, with_equations, becomes, becomes_new, joins_to}
 use Rattle.pattern_unify.specs.Moves.{Row, delete, decompose, clash, join, meet, prune, bind, Direction, left_first, right_first, named_first, named_second, CanMeet, CanPrune, CanBind, CanJoin}
 use Rattle.pattern_unify.specs.Move.{Next, goes_on, has_none, Move, deletes, decomposes, clashes, joins, meets, prunes, binds, argument_equations, entry_equations, entry_args}
-use Rattle.pattern_unify.specs.Run.{Turn}
 use Rattle.pattern_unify.specs.Laws.{IsState}
 use Rattle.pattern_unify.specs.CommonLaws.{IsOfState, TurnKeepsCommonInstances}
 use Rattle.pattern_unify.proofs.StatesKept.{AreTwo, turned, joined_two}

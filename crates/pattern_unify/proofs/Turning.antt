@@ -1,28 +1,26 @@
 -- A turn from what the functions inside the crate make of a state.
-use Rattle.std.proofs.Common.{◌≡◌, ◌≢◌, ◌⊎◌, ◌+◌, ◌<◌, ℕ, zero, suc, List, [], ◌∷◌, ◌++◌, length, map, take, drop, get_or, Option, Some, None, MatchOption, slice_get, option_map, unwrap_or, inl, inr, refl, ap, sym, ◌∙◌, subst, add-one, arith}
+use Rattle.std.proofs.Common.{◌≡◌, ◌+◌, ◌<◌, ℕ, zero, suc, List, [], ◌∷◌, ◌++◌, length, map, take, drop, get_or, Some, MatchOption, slice_get, refl, ap, sym, ◌∙◌, subst, add-one, arith}
 use Rattle.std.specs.List.{AllByRecursion}
 use Rattle.std.proofs.lemmas.List.{length-map, length-reverse}
 use Rattle.binding_terms.proofs.Lists.{all_middle, get_mapped_or, match_within, some_once}
 use Rattle.binding_terms.specs.Signature.{Signature}
-use Rattle.scheme_terms.specs.SchemeTree.{SchemeTree, meta, known, local, con, Values, no_values, value, Parts, AreDistinctLocals}
+use Rattle.scheme_terms.specs.SchemeTree.{SchemeTree, meta, known, local, con}
 use Rattle.scheme_terms.specs.Forms.{Names, Substitution}
-use Rattle.scheme_terms.specs.Substituting.{LocalsBelow}
 use Rattle.scheme_terms.specs.SchemeScope.{IsScheme}
 use Rattle.scheme_terms.proofs.SchemeFacts.{scheme_below}
 use Rattle.pattern_unify.specs.declared.equation.Equation.{Equation}
 use Rattle.pattern_unify.specs.Equations.{SchemeEquation, equation, AreSides}
-use Rattle.pattern_unify.specs.State.{State, names_of, with_equations, joins_to, after_step, substitution_of, becomes}
-use Rattle.pattern_unify.specs.Patterns.{common_arguments, over_parameters}
+use Rattle.pattern_unify.specs.State.{State, with_equations, joins_to, after_step, substitution_of, becomes}
+use Rattle.pattern_unify.specs.Patterns.{over_parameters}
 use Rattle.pattern_unify.specs.Stepped.{through}
 use Rattle.pattern_unify.specs.Pruning.{FirstPrunable}
 use Rattle.pattern_unify.specs.Moves.{Row, delete, decompose, clash, join, meet, prune, bind, Direction, left_first, right_first, named_first, named_second, HaveOneProduction, CanJoin, CanMeet, CanPrune, CanBind, Applies}
 use Rattle.pattern_unify.specs.Move.{Next, goes_on, has_none, entry_args, entry_equations, Move, deletes, decomposes, clashes, joins, meets, prunes, binds}
 use Rattle.pattern_unify.specs.Run.{Turn}
 use Rattle.pattern_unify.specs.Found.{NextMove, IsNextMove}
-use Rattle.pattern_unify.specs.Turned.{GoesTo, HaveSides, IsDecomposed, AreTwoKnowns, AreLowAndHigh, Meets, Prunes, Binds, IsMeet, IsPrune, IsBind}
+use Rattle.pattern_unify.specs.Turned.{GoesTo, IsDecomposed, AreTwoKnowns, AreLowAndHigh, Meets, Prunes, Binds, IsMeet, IsPrune, IsBind}
 use Rattle.pattern_unify.proofs.Fewer.{meta_declared}
 use Rattle.pattern_unify.proofs.Progress.{pruned_declared}
-use Rattle.pattern_unify.proofs.TurnFalling.{first_typed, second_typed}
 
 -- the list around a place
 

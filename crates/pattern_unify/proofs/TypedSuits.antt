@@ -1,5 +1,5 @@
 -- What a list of schemes and one of numbers need to be put in for the names of a scope: schemes of the names' categories, and enough numbers.
-use Rattle.std.proofs.Common.{◌≡◌, ℕ, zero, suc, ◌<◌, List, [], ◌∷◌, ◌++◌, length, map, MatchOption, Some, slice_get, refl, ap, sym, ◌∙◌, subst, arith}
+use Rattle.std.proofs.Common.{◌≡◌, ℕ, ◌<◌, List, [], ◌∷◌, ◌++◌, length, map, slice_get, sym, ◌∙◌, subst, arith}
 use Rattle.std.specs.List.{AllByRecursion, AllZip}
 use Rattle.std.proofs.lemmas.List.{length-map}
 use Rattle.std.proofs.lemmas.Option.{slice_get_within}
@@ -7,9 +7,9 @@ use Rattle.binding_terms.specs.Signature.{Signature, Place, slots, binders}
 use Rattle.binding_terms.specs.Scope.{bound}
 use Rattle.binding_terms.proofs.Lists.{match_from, match_some}
 use Rattle.scheme_terms.specs.SchemeTree.{SchemeTree, meta, known, local, con, Values, no_values, value, Parts, no_parts, part, listed}
-use Rattle.scheme_terms.specs.Forms.{Names, Substitution}
+use Rattle.scheme_terms.specs.Forms.{Names}
 use Rattle.scheme_terms.specs.SchemeScope.{IsScheme, AreValues, AreSchemeParts, params_scope}
-use Rattle.scheme_terms.specs.Substituting.{params, LocalsBelow, Suits, SuitsValues, SuitsParts}
+use Rattle.scheme_terms.specs.Substituting.{LocalsBelow, Suits, SuitsValues, SuitsParts}
 use Rattle.scheme_terms.specs.declared.scheme.MetaDecl.{MetaDecl}
 use Rattle.scheme_terms.proofs.Options.{zip_at}
 use Rattle.scheme_terms.proofs.SchemeFacts.{length_values, length_params, scheme_below}

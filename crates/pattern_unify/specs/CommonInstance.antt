@@ -13,9 +13,8 @@ use Rattle.pattern_unify.specs.Equations.{SchemeEquation}
 abbrev pub MakesEqual : List SchemeTree → List ℕ → SchemeEquation → Type 0
 MakesEqual ss ks e = applied ss ks (length e.locals) e.left ≡ applied ss ks (length e.locals) e.right
 
--- A substitution of the scope, by schemes of a scope with the same root, that makes the sides of each equation the same.
+-- A substitution of the scope, by schemes of any scope, that makes the sides of each equation the same.
 pub record IsCommonInstance (sig : Signature) (names : Names) (eqs : List SchemeEquation) (by : Substitution) : Type 0 where
-  pub root : by.into.root ≡ names.root
   pub scope : KnownsFit sig by.into
   pub schemes : IsSubstitution sig names by
   pub equal : AllByRecursion (MakesEqual by.metas by.knowns) eqs

@@ -9,7 +9,7 @@ use Rattle.pattern_unify.specs.CommonInstance.{HaveCommonInstance}
 use Rattle.pattern_unify.specs.State.{State, names_of, start}
 use Rattle.pattern_unify.specs.Move.{Next, goes_on, has_none}
 use Rattle.pattern_unify.specs.Run.{IsSolved, IsStuck, Turn, End, Runs, EndsStuck, IsWithinFragment}
-use Rattle.pattern_unify.specs.Measure.{measure, IsBelow}
+use Rattle.pattern_unify.specs.Measure.{measure, IsBelow, lessened_by, FallsBy}
 
 -- what holds of each state of a run: its equations have schemes of one category as sides, its known variables fit, and each metavariable of
 -- the start has become a scheme of its category
@@ -39,6 +39,12 @@ abbrev pub TurnFalls : Type 0
 TurnFalls =
     (sig : Signature) (names : Names) (st next : State) → Fits sig → IsState sig names st → Turn sig st (goes_on next) →
     IsBelow (measure next) (measure st)
+
+-- and it falls by the number that the turn's row makes smaller
+abbrev pub TurnFallsBy : Type 0
+TurnFallsBy =
+    (sig : Signature) (names : Names) (st next : State) → Fits sig → IsState sig names st → (turn : Turn sig st (goes_on next)) →
+    FallsBy (lessened_by turn.row) (measure next) (measure st)
 
 -- a state is solved, is stuck, or has a turn
 abbrev pub StateGoesOn : Type 0

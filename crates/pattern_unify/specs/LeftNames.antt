@@ -1,5 +1,5 @@
 -- The names that are left of a run: those that stand in what it has found. To be held against docs/notation.md, 'Unification' (that the answer is most general).
-use Rattle.std.specs.Prelude.{◌≡◌, ℕ, zero, suc, Bool, false, ◌==◌, ◌||◌, if◌then◌else◌, List, [], ◌∷◌, map}
+use Rattle.std.specs.Prelude.{ℕ, zero, suc, Bool, false, ◌==◌, ◌||◌, if◌then◌else◌, List, [], ◌∷◌, map}
 use Rattle.scheme_terms.specs.SchemeTree.{SchemeTree, meta, local, values}
 use Rattle.scheme_terms.specs.Forms.{KnownVariable, Substitution}
 use Rattle.scheme_terms.specs.Substituting.{parameters, params}

@@ -1,7 +1,7 @@
 //! What holds of the moves of a unification and of its written run. The functions do nothing: their contracts are the laws.
 
 ghost use Rattle.pattern_unify.specs.CommonLaws.{StartHasCommonInstances, TurnKeepsCommonInstances, TurnKeepsGroundInstances, SolvedIsMostGeneral, PatternsAreWithin};
-ghost use Rattle.pattern_unify.specs.Laws.{TurnKeepsState, TurnFalls, TurnIsFunction, RunEnds, RunIsFunction, WithinOrStuck, StuckSystemIsOne, ClashHasNone};
+ghost use Rattle.pattern_unify.specs.Laws.{TurnKeepsState, TurnFalls, TurnFallsBy, TurnIsFunction, RunEnds, RunIsFunction, WithinOrStuck, StuckSystemIsOne, ClashHasNone};
 
 /// A turn keeps the scopes: its equations have sides of one category, and each metavariable has become a scheme of its category.
 pub fn turn_keeps_state()
@@ -11,6 +11,11 @@ pub fn turn_keeps_state()
 /// At each turn the measure falls.
 pub fn measure_falls()
     ensures { TurnFalls }
+{}
+
+/// Each turn makes the number of its row smaller, and none that counts before it greater.
+pub fn row_lessens_its_number()
+    ensures { TurnFallsBy }
 {}
 
 /// A turn leads to one state.

@@ -62,39 +62,16 @@ fn one_more(count: usize, keep: bool) -> Result<usize, NoMemory>
     Ok(count)
 }
 
-/// How many metavariables before the place are left.
-fn metas_before(st: &State, place: usize) -> Result<u32, NoMemory>
-    ensures { IfOk result (λ n. n ≡ rank (is_meta_left (state st.now)) 0 place) }
+/// The metavariable with this new number, where it is left.
+fn meta_left(alloc: Global, keep: bool, new: usize, decl: &MetaDecl) -> Result<Scheme, NoMemory>
+    ensures { IfOk result (λ s. scheme s ≡ (if keep then meta new (values (parameters (params decl.now))) else local 0)) }
 {
-    let mut count: usize = 0;
-    for at in 0..place {
-        let keep = is_meta_left(st, at)?;
-        count = one_more(count, keep)?;
-    }
-    number(count)
-}
-
-/// How many known variables before the place are left.
-fn knowns_before(st: &State, place: usize) -> Result<u32, NoMemory>
-    ensures { IfOk result (λ n. n ≡ rank (is_known_left (state st.now)) 0 place) }
-{
-    let mut count: usize = 0;
-    for at in 0..place {
-        count = one_more(count, is_known_left(st, at))?;
-    }
-    number(count)
-}
-
-/// The metavariable with its new number, where it is left.
-fn meta_left(alloc: Global, st: &State, place: usize, decl: &MetaDecl) -> Result<Scheme, NoMemory>
-    ensures { IfOk result (λ s. scheme s ≡ (if is_meta_left (state st.now) place then meta (rank (is_meta_left (state st.now)) 0 place) (values (parameters (params decl.now))) else local 0)) }
-{
-    if !is_meta_left(st, place)? {
+    if !keep {
         return Ok(Scheme::Local(0));
     }
-    let new = metas_before(st, place)?;
+    let name = number(new)?;
     Ok(Scheme::Meta(
-        MetaId(new),
+        MetaId(name),
         make_parameters(alloc, decl.params.as_slice().len())?,
     ))
 }
@@ -103,8 +80,11 @@ fn metas_left(alloc: Global, st: &State, decls: &[MetaDecl]) -> Result<Items<Sch
     ensures { IfOk result (λ all. map scheme all ≡ metas_left (is_meta_left (state st.now)) 0 decls.now) }
 {
     let mut all = Items::new(alloc);
+    let mut count: usize = 0;
     for place in 0..decls.len() {
-        all.push(meta_left(alloc, st, place, &decls[place])?)?;
+        let keep = is_meta_left(st, place)?;
+        all.push(meta_left(alloc, keep, count, &decls[place])?)?;
+        count = one_more(count, keep)?;
     }
     Ok(all)
 }
@@ -113,8 +93,10 @@ fn knowns_left(alloc: Global, st: &State, decls: &[KnownDecl]) -> Result<Items<u
     ensures { IfOk result (λ all. all ≡ knowns_left (is_known_left (state st.now)) 0 (map known_variable decls.now)) }
 {
     let mut all = Items::new(alloc);
+    let mut count: usize = 0;
     for place in 0..decls.len() {
-        all.push(knowns_before(st, place)?)?;
+        all.push(number(count)?)?;
+        count = one_more(count, is_known_left(st, place))?;
     }
     Ok(all)
 }

@@ -1,5 +1,5 @@
 //! The move of each row of the table.
-ghost use Rattle.std.specs.Prelude.{◌≡◌, ◌<◌, ◌+◌, ◌++◌, [], IfOk, length, map, take, drop};
+ghost use Rattle.std.specs.Prelude.{◌≡◌, ◌<◌, ◌≤◌, ◌+◌, ◌++◌, [], IfOk, length, map, take, drop, reverse};
 ghost use Rattle.binding_terms.specs.Signature.{Signature};
 ghost use Rattle.scheme_terms.specs.View.{names, scheme, substitution};
 ghost use Rattle.pattern_unify.specs.Equations.{equation};
@@ -16,7 +16,7 @@ use crate::equation::Equation;
 use crate::moves::{Way, production_of};
 use crate::patterns::common_arguments;
 use crate::pruning::first_prunable;
-use crate::state::{State, after_step, copy_equations};
+use crate::state::{State, after_step};
 use crate::steps::{bind_step, join_step, new_step};
 use crate::turns::Found;
 use binding_terms::{NoMemory, Sig};
@@ -24,20 +24,50 @@ use scheme_terms::{MetaId, Scheme, Scope, Subst, copy_scheme};
 use sqlite_items::Items;
 use std::alloc::Global;
 
-/// The equations with these in the place of one.
+/// Takes the equations from the place on away, and gives them in the other order.
+fn take_from(
+    alloc: Global,
+    eqs: &mut Items<Equation>,
+    place: usize,
+) -> Result<Items<Equation>, NoMemory>
+    requires { place ≤ length eqs.old }
+    ensures { IfOk result (λ away. (eqs.new ≡ take place eqs.old) × (reverse away ≡ drop place eqs.old)) }
+{
+    let mut away = Items::new(alloc);
+    while eqs.len() > place {
+        if let Some(last) = eqs.pop() {
+            away.push(last)?;
+        }
+    }
+    Ok(away)
+}
+
+/// Puts equations that were taken away back behind the others.
+fn put_back(eqs: &mut Items<Equation>, away: Items<Equation>) -> Result<(), NoMemory>
+    ensures { IfOk result (λ _. eqs.new ≡ eqs.old ++ reverse away) }
+{
+    let mut left = away;
+    while let Some(last) = left.pop() {
+        eqs.push(last)?;
+    }
+    Ok(())
+}
+
+/// The equations with these in the place of one. The others are moved, and none is copied.
 fn in_place(
     alloc: Global,
-    eqs: &[Equation],
+    eqs: Items<Equation>,
     place: usize,
     more: Items<Equation>,
 ) -> Result<Items<Equation>, NoMemory>
-    requires { place < length eqs.now }
-    ensures { IfOk result (λ all. map equation all ≡ map equation (take place eqs.now) ++ (map equation more ++ map equation (drop (place + 1) eqs.now))) }
+    requires { place < length eqs }
+    ensures { IfOk result (λ all. map equation all ≡ map equation (take place eqs) ++ (map equation more ++ map equation (drop (place + 1) eqs))) }
 {
-    let mut all = copy_equations(alloc, &eqs[..place])?;
-    let rest = copy_equations(alloc, &eqs[place + 1..])?;
+    let mut all = eqs;
+    let rest = take_from(alloc, &mut all, place + 1)?;
+    let _ = all.pop();
     all.append(more)?;
-    all.append(rest)?;
+    put_back(&mut all, rest)?;
     Ok(all)
 }
 
@@ -47,7 +77,7 @@ fn replace(alloc: Global, st: State, place: usize, more: Items<Equation>) -> Res
 {
     let State { equations, so_far } = st;
     Ok(State {
-        equations: in_place(alloc, equations.as_slice(), place, more)?,
+        equations: in_place(alloc, equations, place, more)?,
         so_far,
     })
 }

@@ -1,4 +1,4 @@
-use Rattle.std.proofs.Common.{◌≡◌, ◌++◌, ◌≤◌, map, reverse, drop, length}
+use Rattle.std.proofs.Common.{◌≡◌, ◌++◌, map, reverse, drop}
 use Rattle.binding_terms.specs.Signature.{binders, slots}
 use Rattle.scheme_terms.specs.View.{scheme_parts}
 use Rattle.pattern_unify.specs.Equations.{equation}

@@ -1,7 +1,6 @@
-use Rattle.std.proofs.Common.{◌≡◌, ◌∙◌, ap, sym, refl, subst, map, length, drop, append-nil, ◌++◌, option_map, [], arith, get_or, Some}
+use Rattle.std.proofs.Common.{◌∙◌, ap, sym, map, drop, append-nil, ◌++◌}
 use Rattle.scheme_terms.specs.SchemeTree.{values}
 use Rattle.scheme_terms.specs.View.{scheme}
-use Rattle.pattern_unify.specs.Patterns.{common_arguments}
 use Rattle.pattern_unify.proofs.Building.{nothing_past}
 use Rattle.pattern_unify.proofs.Ended.{no_common}
 use Rattle.pattern_unify.proofs.patterns.common_arguments.Goals as goal

@@ -1,4 +1,4 @@
-use Rattle.std.proofs.Common.{◌≡◌, ◌∙◌, ap, sym, refl, subst, map, length, drop, append-nil, ◌++◌, option_map, [], arith, get_or, Some}
+use Rattle.std.proofs.Common.{◌∙◌, ap, sym, map, drop, append-nil, ◌++◌}
 use Rattle.scheme_terms.specs.View.{scheme}
 use Rattle.pattern_unify.specs.Equations.{equation}
 use Rattle.pattern_unify.specs.Move.{entry_equations}

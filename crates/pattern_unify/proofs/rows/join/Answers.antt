@@ -1,4 +1,4 @@
-use Rattle.std.proofs.Common.{◌≡◌, ◌∙◌, ap, sym, refl, subst, map, length, drop, append-nil, ◌++◌, option_map, [], arith, get_or, Some}
+use Rattle.std.proofs.Common.{sym, subst}
 use Rattle.pattern_unify.specs.Stepped.{state}
 use Rattle.pattern_unify.specs.State.{names_of}
 use Rattle.pattern_unify.specs.Moves.{join}

@@ -1,8 +1,6 @@
-use Rattle.std.proofs.Common.{◌≡◌, ◌++◌, map, take, drop}
+use Rattle.std.proofs.Common.{◌≡◌, map, take}
 use Rattle.scheme_terms.specs.Substituting.{applied}
-use Rattle.scheme_terms.specs.View.{scheme, substitution, known_variable}
-use Rattle.pattern_unify.specs.Equations.{equation}
-use Rattle.pattern_unify.specs.State.{applied_equation, applied_known, metas_but, knowns_but}
+use Rattle.scheme_terms.specs.View.{scheme, substitution}
 use Rattle.pattern_unify.proofs.state.apply_to_args.Given as goal
 
 abbrev pub invariant-loop-arg : goal.invariant-loop-arg

@@ -1,8 +1,5 @@
-use Rattle.std.proofs.Common.{◌≡◌, ◌++◌, map, take, drop}
-use Rattle.scheme_terms.specs.Substituting.{applied}
-use Rattle.scheme_terms.specs.View.{scheme, substitution, known_variable}
+use Rattle.std.proofs.Common.{◌≡◌, map, take}
 use Rattle.pattern_unify.specs.Equations.{equation}
-use Rattle.pattern_unify.specs.State.{applied_equation, applied_known, metas_but, knowns_but}
 use Rattle.pattern_unify.proofs.state.copy_equations.Given as goal
 
 abbrev pub invariant-loop-one : goal.invariant-loop-one

@@ -1,8 +1,6 @@
-use Rattle.std.proofs.Common.{◌≡◌, ◌++◌, map, take, drop}
-use Rattle.scheme_terms.specs.Substituting.{applied}
-use Rattle.scheme_terms.specs.View.{scheme, substitution, known_variable}
-use Rattle.pattern_unify.specs.Equations.{equation}
-use Rattle.pattern_unify.specs.State.{applied_equation, applied_known, metas_but, knowns_but}
+use Rattle.std.proofs.Common.{◌≡◌, ◌++◌, map, drop}
+use Rattle.scheme_terms.specs.View.{known_variable}
+use Rattle.pattern_unify.specs.State.{knowns_but}
 use Rattle.pattern_unify.proofs.state.knowns_but.Given as goal
 
 abbrev pub invariant-loop-place : goal.invariant-loop-place

@@ -1,4 +1,4 @@
-use Rattle.std.proofs.Common.{◌++◌, ◌∷◌, [], map, ap, ◌∙◌, refl}
+use Rattle.std.proofs.Common.{◌∷◌, [], map, ap, ◌∙◌, refl}
 use Rattle.std.proofs.lemmas.List.{map-append}
 use Rattle.scheme_terms.specs.View.{scheme}
 use Rattle.pattern_unify.specs.State.{metas_but}

@@ -1,4 +1,4 @@
-use Rattle.std.proofs.Common.{arith, drop, ap, sym, refl, ◌∙◌, append-nil, ◌++◌, slice_index, get_or, false}
+use Rattle.std.proofs.Common.{arith, drop, ap, sym, ◌∙◌, append-nil, ◌++◌}
 use Rattle.pattern_unify.specs.Patterns.{marked}
 use Rattle.pattern_unify.proofs.Building.{marked_at, marked_past, nothing_past}
 use Rattle.pattern_unify.proofs.steps.marked_cats.Goals as goal

@@ -1,6 +1,4 @@
-use Rattle.std.proofs.Common.{◌≡◌, ◌++◌, map, drop}
-use Rattle.scheme_terms.specs.Substituting.{parameters}
-use Rattle.scheme_terms.specs.View.{scheme}
+use Rattle.std.proofs.Common.{◌≡◌, ◌++◌, drop}
 use Rattle.pattern_unify.specs.Patterns.{marked}
 use Rattle.pattern_unify.proofs.steps.marked_cats.Given as goal
 

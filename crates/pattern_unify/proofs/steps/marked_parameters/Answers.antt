@@ -1,4 +1,4 @@
-use Rattle.std.proofs.Common.{drop, map, ap, sym, refl, ◌∙◌, append-nil, ◌++◌, arith, ◌≡◌, ℕ, suc, ◌-◌}
+use Rattle.std.proofs.Common.{drop, map, ap, sym, ◌∙◌, append-nil, ◌++◌}
 use Rattle.scheme_terms.specs.Substituting.{parameters}
 use Rattle.scheme_terms.specs.View.{scheme}
 use Rattle.pattern_unify.specs.Patterns.{marked}

@@ -1,7 +1,0 @@
-use Rattle.std.proofs.Common.{◌≡◌}
-use Rattle.pattern_unify.specs.LeftNames.{is_meta_left, rank}
-use Rattle.pattern_unify.specs.Stepped.{state}
-use Rattle.pattern_unify.proofs.left.metas_before.Given as goal
-
-abbrev pub invariant-loop-at : goal.invariant-loop-at
-invariant-loop-at l = l.count ≡ rank (is_meta_left (state l.st)) 0 l.at
