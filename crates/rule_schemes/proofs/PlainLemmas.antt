@@ -11,10 +11,14 @@ use Rattle.scheme_terms.specs.Forms.{SchemeEntry, SchemeContext}
 use Rattle.scheme_terms.specs.SchemeScope.{IsSchemeContext}
 use Rattle.scheme_terms.specs.declared.scheme.Root.{Root}
 use Rattle.scheme_terms.specs.declared.scheme.Root.TheVariants.{Closed, Empty, Whole}
-use Rattle.rule_schemes.specs.Rules.{JudgmentScheme, Rule, Theory, JudgmentFits, IsRootOf, IsBareName, HasForms, RuleFits, HasGoodConclusion, MayStand, IsSystem, assumed_by, assumed, rule_names}
-use Rattle.rule_schemes.specs.Plain.{IsPlainSignature, HasPlainNames, IsPlainSystem}
+use Rattle.rule_schemes.specs.Rules.{JudgmentScheme, Rule, Theory, JudgmentFits, IsRootOf, IsBareName, HasForms, RuleFits, HasGoodConclusion, MayStand, IsSystemSoFar, IsSystem, assumed_by, assumed, rule_names}
+use Rattle.rule_schemes.specs.Plain.{IsPlainSignature, HasPlainNames, IsPlainTheory, IsPlainSystem}
 use Rattle.rule_schemes.specs.Refused.{IsFirstMisplaced, with_rule, AssumeAlike}
 use Rattle.binding_terms.proofs.Lists.{all_found, all_push, all_weaker}
+
+-- a system without contexts and binding
+pub plain_system : {th : Theory} → IsSystemSoFar th → IsPlainTheory th → IsPlainSystem th
+plain_system so_far plain = record { so_far = so_far; plain = plain }
 
 -- no category is one of contexts
 pub no_context : (cats : List Cat) (c : ℕ) → AllByRecursion (λ cat. cat.context ≡ false) cats
