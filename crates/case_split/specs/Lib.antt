@@ -1,0 +1,6 @@
+pub mod Answers
+pub mod Choice
+pub mod Choices
+pub mod Laws
+pub mod SyntaxChoices
+pub mod Worked

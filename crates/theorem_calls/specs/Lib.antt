@@ -1,0 +1,5 @@
+pub mod Answers
+pub mod Call
+pub mod Raised
+pub mod Roots
+pub mod Worked
