@@ -1,0 +1,9 @@
+pub mod BelowFacts
+pub mod BinderFacts
+pub mod BlockFacts
+pub mod CallFacts
+pub mod Facts
+pub mod LeadsTrees
+pub mod Reaching
+pub mod TreesLead
+pub mod WorkLemmas
