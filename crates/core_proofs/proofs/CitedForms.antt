@@ -12,7 +12,9 @@ use Rattle.std.specs.List.{AllByRecursion}
 use Rattle.binding_terms.proofs.Lists.{all_at}
 use Rattle.rule_schemes.specs.Rules.{JudgmentScheme, Rule, Theory}
 use Rattle.core_proofs.specs.FormEquations.{put_first, cited_forms}
-use Rattle.core_proofs.specs.RuleStep.{form_in, IsRaisedTo, AreCited, IsRuleInstance}
+use Rattle.rule_schemes.specs.Placed.{form_in}
+use Rattle.proof_trees.specs.RuleStep.{IsRaisedTo, IsRuleInstance}
+use Rattle.core_proofs.specs.RuleStep.{AreCited}
 use Rattle.core_proofs.specs.Plain.{IsPlainRule}
 use Rattle.core_proofs.specs.Proof.{IsStepForm}
 use Rattle.core_proofs.specs.Provable.{IsRightByRule}

@@ -20,9 +20,11 @@ use Rattle.rule_schemes.specs.Rules.{JudgmentScheme, Theory, IsJudgmentScheme}
 use Rattle.rule_schemes.specs.Plain.{IsPlainSystem}
 use Rattle.rule_schemes.specs.Statement.{Theorem, IsOfInputs, IsOfOutputs, IsStatementForm, StrictInStatement}
 use Rattle.core_proofs.specs.FormEquations.{all_equations, stays, stays_from, goal_equations}
-use Rattle.core_proofs.specs.RuleStep.{form_in}
+use Rattle.rule_schemes.specs.Placed.{form_in}
 use Rattle.core_proofs.specs.Plain.{IsPlainScope, IsPlainForm}
-use Rattle.core_proofs.specs.Proof.{IsProofScope, HasGoal, applied_judgment, itself}
+use Rattle.proof_trees.specs.Right.{IsProofScope}
+use Rattle.rule_schemes.specs.Placed.{applied_judgment}
+use Rattle.core_proofs.specs.Proof.{HasGoal, itself}
 use Rattle.core_proofs.specs.Provable.{IsProvable}
 use Rattle.core_proofs.proofs.ClosedForms.{no_context, closed_form}
 use Rattle.core_proofs.proofs.RuleSteps.{form_is}

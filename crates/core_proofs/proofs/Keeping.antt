@@ -1,6 +1,6 @@
 -- Where right proofs of statements stand, the scope and the forms are plain.
 use Rattle.std.specs.Prelude.{Option}
-use Rattle.std.proofs.Common.{MatchOption, ◌≡◌, ◌↔◌, ◌+◌, ◌<◌, ◌≤◌, ℕ, List, [], ◌∷◌, ◌++◌, length, take, drop, refl, arith, Some, None, slice_get, inl, inr, ap, ◌∙◌, sym, subst}
+use Rattle.std.proofs.Common.{MatchOption, ◌≡◌, ◌↔◌, ◌+◌, ℕ, List, [], ◌∷◌, ◌++◌, length, take, drop, refl, arith, Some, None, slice_get, inl, inr, ap, ◌∙◌, sym, subst}
 use Rattle.std.proofs.Math.Seq.{take-append_seam, drop-append_seam}
 use Rattle.std.proofs.lemmas.List.{length-take, take-append-drop}
 use Rattle.std.proofs.lemmas.Option.{slice_get_within}
@@ -14,7 +14,8 @@ use Rattle.rule_schemes.specs.Plain.{IsPlainSystem}
 use Rattle.rule_schemes.specs.Statement.{StatementInput, given, syntax_input, Theorem, OccursInInput, OccursInJudgment, IsOfInputs, IsStatementInput}
 use Rattle.core_proofs.specs.Plain.{IsPlainScope, IsPlainForm}
 use Rattle.core_proofs.specs.Step.{Step, begin_theorem, end_theorem, by_rule}
-use Rattle.core_proofs.specs.Proof.{IsProofScope, given_judgments, Standing, outside, within, Leads}
+use Rattle.proof_trees.specs.Right.{IsProofScope}
+use Rattle.core_proofs.specs.Proof.{given_judgments, Standing, outside, within, Leads}
 use Rattle.core_proofs.specs.Provable.{IsProvable, CountsInputs}
 use Rattle.core_proofs.proofs.Moving.{Follows, leads_on, counted, is_front}
 use Rattle.core_proofs.proofs.PlainForms.{form_in_front, plain_form}

@@ -11,3 +11,6 @@ pub mod Refusing
 pub mod RuleFitting
 pub mod RuleSteps
 pub mod Telling
+pub mod TreeGoals
+pub mod TreeSteps
+pub mod TreeValues

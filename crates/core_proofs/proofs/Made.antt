@@ -6,7 +6,8 @@ use Rattle.rule_schemes.specs.Rules.{Rule, IsInstance, IsJudgmentScheme, rule_na
 use Rattle.rule_schemes.specs.Derivation.{node, judgment, Derives}
 use Rattle.rule_schemes.specs.Statement.{Theorem}
 use Rattle.core_proofs.specs.Proof.{HasGoal, by_a_rule, ends, one_step, no_step}
-use Rattle.core_proofs.specs.Value.{subtrees, makes_node, makes_last}
+use Rattle.proof_trees.specs.Value.{subtrees}
+use Rattle.core_proofs.specs.Value.{makes_node, makes_last}
 use Rattle.core_proofs.specs.Laws.{MakesDerives}
 use Rattle.core_proofs.proofs.RuleSteps.{rule_step_derives}
 use Rattle.binding_terms.proofs.Lists.{all_at, cited_zip, zip_push}

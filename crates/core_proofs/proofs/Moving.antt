@@ -7,7 +7,8 @@ use Rattle.scheme_terms.specs.Forms.{Names}
 use Rattle.rule_schemes.specs.Rules.{JudgmentScheme, Theory}
 use Rattle.rule_schemes.specs.Statement.{Theorem, IsOfInputs}
 use Rattle.core_proofs.specs.Step.{Step, begin_theorem, end_theorem, by_rule}
-use Rattle.core_proofs.specs.Proof.{IsProofScope, HasGoal, given_judgments, Standing, outside, within, Move, begins, by_a_rule, ends, Leads, no_step, one_step}
+use Rattle.proof_trees.specs.Right.{IsProofScope}
+use Rattle.core_proofs.specs.Proof.{HasGoal, given_judgments, Standing, outside, within, Move, begins, by_a_rule, ends, Leads, no_step, one_step}
 use Rattle.core_proofs.specs.Provable.{IsRightByRule, CountsInputs}
 use Rattle.binding_terms.proofs.Lists.{numbered_at, same_front, some_within as place_within}
 

@@ -19,7 +19,8 @@ use Rattle.core_proofs.specs.Plain.{IsPlainForm}
 use Rattle.core_proofs.specs.declared.proving.Proving.TheInside.{Inside}
 use Rattle.core_proofs.specs.Step.{Step, begin_theorem, end_theorem, by_rule}
 use Rattle.core_proofs.specs.View.{step}
-use Rattle.core_proofs.specs.Proof.{IsProofScope, HasGoal, Standing, outside, within, Leads, Proves, given_judgments}
+use Rattle.proof_trees.specs.Right.{IsProofScope}
+use Rattle.core_proofs.specs.Proof.{HasGoal, Standing, outside, within, Leads, Proves, given_judgments}
 use Rattle.core_proofs.specs.Provable.{IsProvable, IsRightByRule}
 use Rattle.core_proofs.specs.Kept.{Kept, kept_theory, kept_statements, kept_steps, form_at, standing, IsProving, IsAccepted}
 use Rattle.core_proofs.proofs.Moving.{Follows, leads_more, no_more, one_end}
@@ -46,6 +47,7 @@ pub proceeds : (kept : Kept) (at to : Standing) (new : List CoreStep) (s : CoreS
 proceeds kept at to new s is e follows =
     let steps : kept_steps kept ++ step s ∷ [] ≡ map step new = sym (ap (map step) e ∙ map-append step kept.steps (s ∷ [])) in
     record {
+      plain = is.plain;
       provable = is.provable;
       count = is.count;
       leads = subst (λ ss. Leads (kept_theory kept) (kept_statements kept) (outside 0) ss to) steps
@@ -201,6 +203,7 @@ module _ (i : Inside) (is : IsProving (kept_of i) (standing i.inside i.ended (na
   pub accepted : inside ≡ false → ended ≡ length kept.statements → IsAccepted kept
   accepted e number =
       record {
+        plain = is.plain;
         provable = is.provable;
         count = is.count;
         proves = subst (λ (t : Standing). Leads (kept_theory kept) (kept_statements kept) (outside 0) (kept_steps kept) t)

@@ -14,7 +14,8 @@ use Rattle.pattern_unify.specs.Equations.{SchemeEquation}
 use Rattle.pattern_unify.specs.FitInto.{AreSidesInto, AreToFitInto, Becomes, IsFitInto, IsOnlyFitInto}
 use Rattle.rule_schemes.specs.Rules.{JudgmentScheme, Rule, Theory, IsRootOf, IsOneEntry, StrictInEntries, StrictInJudgment, StrictInRule, argument_slots, rule_names}
 use Rattle.core_proofs.specs.FormEquations.{paired, form_equations, both, all_equations}
-use Rattle.core_proofs.specs.RuleStep.{form_in, IsRaisedTo, IsRuleInstance}
+use Rattle.rule_schemes.specs.Placed.{form_in}
+use Rattle.proof_trees.specs.RuleStep.{IsRaisedTo, IsRuleInstance}
 use Rattle.core_proofs.specs.Plain.{IsPlainForm, IsPlainRule}
 use Rattle.core_proofs.proofs.ClosedForms.{closed_form, is_closed_form}
 use Rattle.core_proofs.proofs.RuleSteps.{form_is}

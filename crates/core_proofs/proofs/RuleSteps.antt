@@ -15,8 +15,9 @@ use Rattle.scheme_terms.proofs.SchemeFacts.{length_params}
 use Rattle.scheme_terms.proofs.InstanceScopes.{instance_keeps_scope_of_metas}
 use Rattle.rule_schemes.specs.Rules.{JudgmentScheme, JudgmentValue, Rule, Theory, IsInstance, IsJudgmentScheme, IsRootOf, IsBelow, AreClosed, judgment_instance, argument_slots, rule_names}
 use Rattle.rule_schemes.specs.Derivation.{Derivation, judgment, AreInstances, IsNodeOf, Derives, AllDerive}
-use Rattle.core_proofs.specs.RuleStep.{form_in, IsRaisedTo}
-use Rattle.core_proofs.specs.Value.{subtrees}
+use Rattle.rule_schemes.specs.Placed.{form_in}
+use Rattle.proof_trees.specs.RuleStep.{IsRaisedTo}
+use Rattle.proof_trees.specs.Value.{subtrees}
 use Rattle.core_proofs.specs.Laws.{RuleStepDerives}
 use Rattle.core_proofs.proofs.ClosedForms.{closed_form, is_closed_form, no_value, closed_instances, instances_applied}
 use Rattle.binding_terms.proofs.Lists.{match_from, match_some}

@@ -17,7 +17,7 @@ use Rattle.core_proofs.specs.Faults.{CanStandByRule, IsRuleCode, cannot_stand, a
 use Rattle.core_proofs.specs.FormEquations.{cited_forms}
 use Rattle.core_proofs.specs.Kept.{Kept, kept_theory, kept_statements, form_at, standing, IsProving}
 use Rattle.core_proofs.specs.Proof.{HasGoal, IsStepForm, Standing}
-use Rattle.core_proofs.specs.RuleStep.{IsRuleInstance}
+use Rattle.proof_trees.specs.RuleStep.{IsRuleInstance}
 use Rattle.core_proofs.specs.Step.{Step, begin_theorem, end_theorem, by_rule}
 use Rattle.core_proofs.proofs.CitedForms.{cited_are, are_cited}
 use Rattle.core_proofs.proofs.Refusing.{kept_of, statement_at, no_statement_at}

@@ -10,7 +10,8 @@ use Rattle.sy_base.specs.declared.fault.Refusal.{Refusal}
 use Rattle.sy_base.specs.declared.fault.Refusal.TheVariants.{Refused, NoMemory}
 use Rattle.core_proofs.specs.Kept.{Kept, kept_theory, kept_statements, kept_steps}
 use Rattle.core_proofs.specs.Proof.{HasGoal, IsStepForm, Standing, outside, within, Leads}
-use Rattle.core_proofs.specs.RuleStep.{IsRuleInstance, AreCited}
+use Rattle.proof_trees.specs.RuleStep.{IsRuleInstance}
+use Rattle.core_proofs.specs.RuleStep.{AreCited}
 use Rattle.core_proofs.specs.Step.{Step, begin_theorem, end_theorem, by_rule}
 
 -- A step by a rule can stand within a proof: its form is one of the proof, each cited number is that of a form in scope, and there is

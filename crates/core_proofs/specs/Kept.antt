@@ -3,6 +3,7 @@ use Rattle.std.specs.Prelude.{ℕ, ◌<◌, ◌^◌, Bool, true, false, List, le
 use Rattle.std.specs.List.{AllByRecursion}
 use Rattle.scheme_terms.specs.Forms.{Names}
 use Rattle.rule_schemes.specs.Parts.{Parts}
+use Rattle.rule_schemes.specs.Plain.{IsPlainTheory}
 use Rattle.rule_schemes.specs.Rules.{JudgmentScheme, Theory}
 use Rattle.rule_schemes.specs.Statement.{Theorem}
 use Rattle.rule_schemes.specs.View.{theory, statement}
@@ -38,14 +39,16 @@ abbrev pub standing : (inside : Bool) → (ended : ℕ) → Names → List Judgm
 standing false k scope forms last = outside k
 standing true k scope forms last = within k scope forms (form_at forms last)
 
--- the statements can be proved, and the kept steps are right and lead to where they stand
+-- nothing binds and there is no context, the statements can be proved, and the kept steps are right and lead to where they stand
 pub record IsProving (kept : Kept) (at : Standing) : Type 0 where
+  pub plain : IsPlainTheory (kept_theory kept)
   pub provable : AllByRecursion (IsProvable (kept_theory kept)) (kept_statements kept)
   pub count : length kept.statements < 2 ^ 32
   pub leads : Leads (kept_theory kept) (kept_statements kept) (outside 0) (kept_steps kept) at
 
--- the statements can be proved, and the kept steps are right proofs of all of them
+-- nothing binds and there is no context, the statements can be proved, and the kept steps are right proofs of all of them
 pub record IsAccepted (kept : Kept) : Type 0 where
+  pub plain : IsPlainTheory (kept_theory kept)
   pub provable : AllByRecursion (IsProvable (kept_theory kept)) (kept_statements kept)
   pub count : length kept.statements < 2 ^ 32
   pub proves : Proves (kept_theory kept) (kept_statements kept) (kept_steps kept)

@@ -6,11 +6,12 @@ use Rattle.scheme_terms.specs.Instance.{FitsScope}
 use Rattle.scheme_terms.specs.declared.scheme.Root.TheVariants.{Closed}
 use Rattle.rule_schemes.specs.Rules.{JudgmentScheme, Rule, Theory, IsInstance, IsJudgmentScheme, judgment_instance, rule_names}
 use Rattle.rule_schemes.specs.Derivation.{Derivation, judgment, node, Derives}
-use Rattle.core_proofs.specs.RuleStep.{IsRuleInstance}
+use Rattle.proof_trees.specs.RuleStep.{IsRuleInstance}
 use Rattle.rule_schemes.specs.Statement.{Theorem}
 use Rattle.core_proofs.specs.Step.{Step}
 use Rattle.core_proofs.specs.Proof.{IsStepForm, HasGoal, Standing, within, Leads}
-use Rattle.core_proofs.specs.Value.{subtrees, Makes}
+use Rattle.proof_trees.specs.Value.{subtrees}
+use Rattle.core_proofs.specs.Value.{Makes}
 
 -- Without contexts, the instance of a right step by a rule is a derivation of the form's instance, over derivations of the instances of the
 -- cited forms.

@@ -7,5 +7,6 @@ pub mod Proof
 pub mod Provable
 pub mod RuleStep
 pub mod Step
+pub mod Trees
 pub mod Value
 pub mod View

@@ -3,35 +3,20 @@ use Rattle.std.specs.Prelude.{◌≡◌, ◌≤◌, ℕ, suc, List, [], ◌∷�
 use Rattle.binding_terms.specs.Numbered.{AllNumbered}
 use Rattle.scheme_terms.specs.SchemeTree.{SchemeTree, meta, values}
 use Rattle.scheme_terms.specs.Forms.{Names, Substitution}
-use Rattle.scheme_terms.specs.Substituting.{applied, params, parameters, IsSubstitution}
+use Rattle.scheme_terms.specs.Substituting.{params, parameters, IsSubstitution}
 use Rattle.scheme_terms.specs.SchemeScope.{StandsWith}
 use Rattle.scheme_terms.specs.declared.scheme.MetaDecl.{MetaDecl}
+use Rattle.rule_schemes.specs.Placed.{applied_judgment}
 use Rattle.rule_schemes.specs.Rules.{JudgmentScheme, Rule, Theory, IsJudgmentScheme, MayStand, ENTRIES}
-use Rattle.rule_schemes.specs.Statement.{StatementInput, given, syntax_input, Theorem, IsOfInputs}
-use Rattle.core_proofs.specs.RuleStep.{applied_entries, IsRuleInstance, AreCited}
+use Rattle.rule_schemes.specs.Statement.{StatementInput, given, syntax_input, Theorem}
+use Rattle.proof_trees.specs.Right.{IsProofScope}
+use Rattle.proof_trees.specs.RuleStep.{IsRuleInstance}
+use Rattle.core_proofs.specs.RuleStep.{AreCited}
 use Rattle.core_proofs.specs.Step.{Step, begin_theorem, end_theorem, by_rule}
-
--- the scope in which a proof begins: its statement's without the further metavariables of the conclusion, which stand last there
-pub record IsProofScope (st : Theorem) (scope : Names) : Type 0 where
-  pub root : scope.root ≡ st.scope.root
-  pub knowns : scope.knowns ≡ []
-  pub goal_names : List MetaDecl
-  pub split : st.scope.metas ≡ scope.metas ++ goal_names
-  pub of_inputs : AllNumbered (λ m decl. IsOfInputs st m) 0 scope.metas
-  pub further : AllNumbered (λ m decl. IsOfInputs st m → ⊥) (length scope.metas) goal_names
 
 -- a metavariable that stands for itself: applied to its parameters, the last innermost
 abbrev pub itself : (number : ℕ) → MetaDecl → SchemeTree
 itself m decl = meta m (values (parameters (params decl)))
-
--- a conclusion with schemes for its names
-abbrev pub applied_judgment : Substitution → JudgmentScheme → JudgmentScheme
-applied_judgment by j =
-    record {
-      judgment = j.judgment;
-      context = record { root = j.context.root; entries = applied_entries by 0 j.context.entries };
-      args = map (applied by.metas by.knowns (length j.context.entries)) j.args;
-    }
 
 -- A form has the goal: one substitution of the goal's own names by schemes of the scope makes the conclusion the form.
 pub record HasGoal (th : Theory) (st : Theorem) (scope : Names) (form : JudgmentScheme) : Type 0 where

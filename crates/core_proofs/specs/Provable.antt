@@ -8,8 +8,10 @@ use Rattle.scheme_terms.specs.declared.scheme.Root.TheVariants.{Closed}
 use Rattle.pattern_unify.specs.Plain.{HaveNoParameters}
 use Rattle.rule_schemes.specs.Rules.{JudgmentScheme, Rule, Theory}
 use Rattle.rule_schemes.specs.Statement.{StatementInput, given, syntax_input, Theorem, IsStatement, IsTheoremScope, HasNoFault, IsOfInputs, IsOfOutputs}
-use Rattle.core_proofs.specs.RuleStep.{IsRuleInstance, AreCited}
-use Rattle.core_proofs.specs.Proof.{IsProofScope, IsStepForm}
+use Rattle.proof_trees.specs.RuleStep.{IsRuleInstance}
+use Rattle.core_proofs.specs.RuleStep.{AreCited}
+use Rattle.proof_trees.specs.Right.{IsProofScope}
+use Rattle.core_proofs.specs.Proof.{IsStepForm}
 
 -- the input is a derivation
 abbrev pub IsOfDerivation : StatementInput → Type 0

@@ -4,15 +4,11 @@ use Rattle.std.specs.List.{AllZip}
 use Rattle.scheme_terms.specs.Forms.{ContextValue, Names, Instance}
 use Rattle.scheme_terms.specs.Instance.{FitsScope}
 use Rattle.rule_schemes.specs.Rules.{JudgmentScheme, Rule, Theory, IsAssumption, judgment_instance}
-use Rattle.rule_schemes.specs.Derivation.{Derivation, node, Subtrees, no_more, subtree}
+use Rattle.rule_schemes.specs.Derivation.{Derivation, node}
+use Rattle.proof_trees.specs.Value.{subtrees}
 use Rattle.rule_schemes.specs.Statement.{Theorem, InputTree, derived, term, IsInstantiation}
 use Rattle.core_proofs.specs.Step.{Step, begin_theorem, end_theorem, by_rule}
-use Rattle.core_proofs.specs.Proof.{IsProofScope}
-
--- the subtrees of a node, from the first
-abbrev pub subtrees : List Derivation → Subtrees
-subtrees [] = no_more
-subtrees (d ∷ ds) = subtree d (subtrees ds)
+use Rattle.proof_trees.specs.Right.{IsProofScope}
 
 -- the derivations of the cited steps, in order
 abbrev pub AreCitedTrees : List Derivation → (on : List ℕ) → List Derivation → Type 0

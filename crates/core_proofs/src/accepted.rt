@@ -1,9 +1,11 @@
 // Proofs of which every step is right, and all of whose theorems are ended.
-ghost use Rattle.std.specs.Prelude.{◌≡◌, ◌↔◌, [], IsTrue, IfSome, IfNone};
+ghost use Rattle.std.specs.Prelude.{◌≡◌, ◌↔◌, [], IsTrue, IfSome, IfNone, length};
 ghost use Rattle.std.specs.List.{AllByRecursion};
 ghost use Rattle.rule_schemes.specs.View.{statement};
-ghost use Rattle.core_proofs.specs.Kept.{kept_statements, IsAccepted};
+ghost use Rattle.core_proofs.specs.Kept.{kept_theory, kept_statements, IsAccepted};
 ghost use Rattle.core_proofs.specs.Provable.{IsFirstNamed};
+ghost use Rattle.core_proofs.specs.Trees.{whole_steps};
+ghost use Rattle.proof_trees.specs.Standings.{AreWholeTrees};
 
 use crate::step::CoreStep;
 use rule_schemes::{Statement, System, TheoremId};
@@ -104,10 +106,19 @@ impl Accepted {
         None
     }
 
-    /// Tells a caller's proof what was accepted: each statement can be proved so far, and the steps are right proofs of all of them.
+    /// Tells a caller's proof what was accepted: nothing binds and there is no context, each statement can be proved so far, and the steps are right proofs of all of them.
     pub fn always_accepted(&self)
         ensures { IsAccepted self.now }
     {
         let _ = &self.steps;
+    }
+
+    /// Tells a caller's proof that the steps are those of right proofs on trees, one for each statement, in order.
+    pub fn always_right_trees(&self)
+        ensures { AreWholeTrees (kept_theory self.now) (kept_statements self.now) (length (kept_statements self.now)) (whole_steps self.now) }
+    {
+        self.always_accepted();
+        let system = self.system();
+        system.always_system();
     }
 }

@@ -2,6 +2,7 @@
 ghost use Rattle.std.specs.Prelude.{◌≡◌, ◌↔◌, map, length, decimal, IfOk, IfSome, None, option_map};
 ghost use Rattle.std.specs.List.{AllByRecursion};
 ghost use Rattle.scheme_terms.specs.View.{names};
+ghost use Rattle.rule_schemes.specs.Plain.{IsPlainTheory};
 ghost use Rattle.rule_schemes.specs.View.{theory, judgment_scheme};
 ghost use Rattle.core_proofs.specs.Faults as faults;
 ghost use Rattle.core_proofs.specs.Faults.{IsRuleCode};
@@ -49,6 +50,7 @@ pub(crate) fn rule_fault(
     rule: RuleId,
     on: &[StepId],
 ) -> Result<Option<Code>, NoMemory>
+    requires theory { IsPlainTheory (theory system.now) }
     requires scope { IsPlainScope (names scope.now) }
     requires scoped { AllByRecursion (IsPlainForm (theory system.now) (names scope.now)) (map judgment_scheme scoped.now) }
     ensures right { IfOk result (λ fault. (fault ≡ None)

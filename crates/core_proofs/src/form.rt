@@ -5,6 +5,7 @@ ghost use Rattle.binding_terms.specs.Signature.{slots, binders};
 ghost use Rattle.scheme_terms.specs.View.{names, scheme, scheme_part, scheme_parts, scheme_entry};
 ghost use Rattle.scheme_terms.specs.SchemeScope.{IsScheme, AreSchemeParts, AreSchemes};
 ghost use Rattle.pattern_unify.specs.Plain.{NothingBinds};
+ghost use Rattle.rule_schemes.specs.Plain.{IsPlainTheory};
 ghost use Rattle.rule_schemes.specs.Rules.{IsJudgmentScheme};
 ghost use Rattle.rule_schemes.specs.View.{theory, judgment_scheme};
 ghost use Rattle.core_proofs.specs.Plain.{IsPlainScope};
@@ -101,7 +102,8 @@ fn is_closed(ctx: &SCtx) -> bool
 
 /// Whether the form is one of a judgment of the system, over the scope. Nothing binds, and there is no context.
 pub fn is_form(system: &System, scope: &Scope, form: &JScheme) -> bool
-    requires { IsPlainScope (names scope.now) }
+    requires theory { IsPlainTheory (theory system.now) }
+    requires scope { IsPlainScope (names scope.now) }
     ensures { IsTrue result ↔ IsJudgmentScheme (theory system.now) (names scope.now) (judgment_scheme form.now) }
 {
     system.always_system();

@@ -2,10 +2,12 @@
 ghost use Rattle.std.specs.Prelude.{◌≡◌, ◌↔◌, ◌++◌, IsTrue, map, IfOk, option_map};
 ghost use Rattle.scheme_terms.specs.View.{names};
 ghost use Rattle.pattern_unify.specs.Equations.{equation};
+ghost use Rattle.rule_schemes.specs.Plain.{IsPlainTheory};
 ghost use Rattle.rule_schemes.specs.View.{theory, judgment_scheme, statement};
 ghost use Rattle.core_proofs.specs.FormEquations.{stays, stays_from, goal_equations};
 ghost use Rattle.core_proofs.specs.Plain.{IsPlainForm};
-ghost use Rattle.core_proofs.specs.Proof.{IsProofScope, HasGoal};
+ghost use Rattle.proof_trees.specs.Right.{IsProofScope};
+ghost use Rattle.core_proofs.specs.Proof.{HasGoal};
 ghost use Rattle.core_proofs.specs.Provable.{IsProvable};
 
 use crate::rule_step::equations_of;
@@ -73,6 +75,7 @@ pub fn has_goal(
     scope: &Scope,
     form: &JScheme,
 ) -> Result<bool, NoMemory>
+    requires theory { IsPlainTheory (theory system.now) }
     requires provable { IsProvable (theory system.now) (statement of.now) }
     requires scope { IsProofScope (statement of.now) (names scope.now) }
     requires form { IsPlainForm (theory system.now) (names scope.now) (judgment_scheme form.now) }

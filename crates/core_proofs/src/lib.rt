@@ -13,7 +13,9 @@ mod step;
 
 pub use accepted::Accepted;
 pub use goal::has_goal;
-pub use laws::{makes_derives, rule_step_derives, steps_lead_to_one};
+pub use laws::{
+    makes_derives, proofs_are_trees, rule_step_derives, steps_lead_to_one, values_are_of_trees,
+};
 pub use proving::Proving;
 pub use rule_step::is_rule_instance;
 pub use scoping::{has_proof_scope, proof_scope};

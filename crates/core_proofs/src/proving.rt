@@ -1,6 +1,7 @@
 // The object that keeps right steps.
 ghost use Rattle.std.specs.Prelude.{◌≡◌, ◌↔◌, ◌++◌, ◌∷◌, ◌<◌, ◌^◌, [], map, option_map, vec_len, IfOk, IfErr, IsOk, OnOk, OnErr, IsErrOf};
 ghost use Rattle.std.specs.List.{AllByRecursion};
+ghost use Rattle.rule_schemes.specs.Plain.{IsPlainTheory};
 ghost use Rattle.rule_schemes.specs.View.{theory, statement, judgment_scheme};
 ghost use Rattle.core_proofs.specs.Faults.{IsTold};
 ghost use Rattle.core_proofs.specs.Kept.{kept_theory, kept_statements, kept_steps, form_at};
@@ -84,12 +85,14 @@ fn last_form(forms: &[JScheme], last: Option<usize>) -> Option<&JScheme>
 }
 
 impl Proving {
-    /// Proofs of the statements over the system, without a step. Each statement can be proved so far (`IsProvable`).
+    /// Proofs of the statements over the system, without a step. So far nothing binds there and there is no context, and each statement
+    /// can be proved (`IsProvable`).
     pub fn open(
         alloc: Global,
         system: System,
         statements: Vec<Statement>,
     ) -> Result<Proving, NoMemory>
+        requires plain { IsPlainTheory (theory system) }
         requires provable { AllByRecursion (IsProvable (theory system)) (map statement statements.items) }
         requires count { vec_len statements < 2 ^ 32 }
         ensures { IfOk result (λ p. p ≡ record { system = system; statements = statements.items; steps = [] }) }

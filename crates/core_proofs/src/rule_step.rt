@@ -6,7 +6,7 @@ ghost use Rattle.pattern_unify.specs.Equations.{equation};
 ghost use Rattle.rule_schemes.specs.Rules.{rule_names};
 ghost use Rattle.rule_schemes.specs.View.{theory, judgment_scheme, rule as plain_rule};
 ghost use Rattle.core_proofs.specs.FormEquations.{equated, paired, form_equations, all_equations, both};
-ghost use Rattle.core_proofs.specs.RuleStep.{IsRuleInstance};
+ghost use Rattle.proof_trees.specs.RuleStep.{IsRuleInstance};
 ghost use Rattle.core_proofs.specs.Plain.{IsPlainForm, IsPlainRule};
 
 use binding_terms::{NoMemory, Text};

@@ -4,7 +4,8 @@ ghost use Rattle.binding_terms.specs.Numbered.{AllNumbered};
 ghost use Rattle.scheme_terms.specs.View.{names};
 ghost use Rattle.rule_schemes.specs.Statement.{IsOfInputs};
 ghost use Rattle.rule_schemes.specs.View.{judgment_scheme, statement_input, statement};
-ghost use Rattle.core_proofs.specs.Proof.{IsProofScope, given_judgments};
+ghost use Rattle.proof_trees.specs.Right.{IsProofScope};
+ghost use Rattle.core_proofs.specs.Proof.{given_judgments};
 ghost use Rattle.scheme_terms.specs.Forms.{Names};
 ghost use Rattle.core_proofs.specs.Provable.{CountsInputs};
 

@@ -6,6 +6,7 @@ use Rattle.std.proofs.lemmas.Option.{slice_get-map}
 use Rattle.scheme_terms.specs.View.{names}
 use Rattle.rule_schemes.specs.View.{theory, judgment_scheme, rule}
 use Rattle.core_proofs.specs.Plain.{IsPlainForm}
+use Rattle.rule_schemes.proofs.PlainLemmas.{plain_system}
 use Rattle.core_proofs.proofs.CitedForms.{uncited, no_rule, is_right, is_instance, cited_all, cited_are, cited_count}
 use Rattle.core_proofs.proofs.PlainForms.{plain_form, plain_rule_at, step_form}
 use Rattle.core_proofs.proofs.Telling.{form_is_none, number_of_none, rule_is_none, counts_differ, is_no_instance}
@@ -17,7 +18,7 @@ returns-in_default-clause-right c =
     (λ e. let no : ⊥ = cc in absurd no, λ right. absurd (uncited _ _ _ _ _ _ none right))
 
 pub is_rule_instance-requires-clause-form : goal.is_rule_instance-requires-clause-form
-is_rule_instance-requires-clause-form c = plain_form _ c.always_system.ensures.plain _ _ (c.is_form.ensures.0 c.if-not-is_form.false)
+is_rule_instance-requires-clause-form c = plain_form _ (plain_system c.always_system.ensures c.requires.theory) _ _ (c.is_form.ensures.0 c.if-not-is_form.false)
 
 pub is_rule_instance-requires-clause-cited : goal.is_rule_instance-requires-clause-cited
 is_rule_instance-requires-clause-cited c =
@@ -31,7 +32,7 @@ is_rule_instance-requires-clause-rule c =
     let here : slice_get (theory c.args.system.now).rules c.args.rule.0 ≡ Some (rule c.in-Some-at.rule.now) =
     slice_get-map rule c.args.system.now.rules c.args.rule.0
     ∙ ap (option_map rule) (ap (λ rs. slice_get rs c.args.rule.0) (sym (c.as_slice.ensures.value ∙ c.rules-rules.ensures)) ∙ sym c.at.ensures ∙ ap option_copied c.in-Some-at.is) in
-    plain_rule_at _ c.always_system.ensures.plain _ _ here
+    plain_rule_at _ (plain_system c.always_system.ensures c.requires.theory) _ _ here
 
 pub returns-then-branch-clause-right : goal.returns-then-branch-clause-right
 returns-then-branch-clause-right c =
@@ -39,7 +40,7 @@ returns-then-branch-clause-right c =
     let here : slice_get (theory c.args.system.now).rules c.args.rule.0 ≡ Some (rule c.in-Some-at.rule.now) =
     slice_get-map rule c.args.system.now.rules c.args.rule.0
     ∙ ap (option_map rule) (ap (λ rs. slice_get rs c.args.rule.0) (sym (c.as_slice.ensures.value ∙ c.rules-rules.ensures)) ∙ sym c.at.ensures ∙ ap option_copied c.in-Some-at.is) in
-    let form_is = step_form _ c.always_system.ensures.plain _ _ c.requires.scope.root (c.is_form.ensures.0 c.if-not-is_form.false) in
+    let form_is = step_form _ (plain_system c.always_system.ensures c.requires.theory) _ _ c.requires.scope.root (c.is_form.ensures.0 c.if-not-is_form.false) in
     let judged = rw c.as_slice-in-Some-at.ensures.value at c.in_ok-is_rule_instance-in-Some-at.ensures in
     (λ e. is_right _ _ _ _ _ _ _ _ some here form_is (judged.0 c.if-branch.true), λ right. refl)
 
@@ -64,7 +65,7 @@ returns-then-len-on-clause-right c =
     let here : slice_get (theory c.args.system.now).rules c.args.rule.0 ≡ Some (rule c.in-Some-at.rule.now) =
     slice_get-map rule c.args.system.now.rules c.args.rule.0
     ∙ ap (option_map rule) (ap (λ rs. slice_get rs c.args.rule.0) (sym (c.as_slice.ensures.value ∙ c.rules-rules.ensures)) ∙ sym c.at.ensures ∙ ap option_copied c.in-Some-at.is) in
-    let plain = plain_rule_at _ c.always_system.ensures.plain _ _ here in
+    let plain = plain_rule_at _ (plain_system c.always_system.ensures c.requires.theory) _ _ here in
     let premises : c.len.result ≡ length (map judgment_scheme c.in-Some-at.rule.now.premises) = c.len.ensures ∙ sym (length-map c.in-Some-at.rule.now.premises judgment_scheme) in (
       λ e. let no : ⊥ = cc in absurd no,
       λ right. absurd (c.if-len-on.true (premises ∙ cited_count _ _ _ _ _ _ (rule c.in-Some-at.rule.now) here plain right ∙ length-map c.args.on.now (λ id. id.0))),
@@ -85,7 +86,7 @@ returns-then-len-on-clause-code c =
     let here : slice_get (theory c.args.system.now).rules c.args.rule.0 ≡ Some (rule c.in-Some-at.rule.now) =
     slice_get-map rule c.args.system.now.rules c.args.rule.0
     ∙ ap (option_map rule) (ap (λ rs. slice_get rs c.args.rule.0) (sym (c.as_slice.ensures.value ∙ c.rules-rules.ensures)) ∙ sym c.at.ensures ∙ ap option_copied c.in-Some-at.is) in
-    let form_is = step_form _ c.always_system.ensures.plain _ _ c.requires.scope.root (c.is_form.ensures.0 c.if-not-is_form.false) in
+    let form_is = step_form _ (plain_system c.always_system.ensures c.requires.theory) _ _ c.requires.scope.root (c.is_form.ensures.0 c.if-not-is_form.false) in
     let premises : c.len.result ≡ length (map judgment_scheme c.in-Some-at.rule.now.premises) = c.len.ensures ∙ sym (length-map c.in-Some-at.rule.now.premises judgment_scheme) in
     counts_differ _ _ _ _ _ _ _ _ form_is some here (λ same. c.if-len-on.true (premises ∙ sym same ∙ length-map c.args.on.now (λ id. id.0)))
 
@@ -95,7 +96,7 @@ returns-in-Some-at-clause-code c =
     let here : slice_get (theory c.args.system.now).rules c.args.rule.0 ≡ Some (rule c.in-Some-at.rule.now) =
     slice_get-map rule c.args.system.now.rules c.args.rule.0
     ∙ ap (option_map rule) (ap (λ rs. slice_get rs c.args.rule.0) (sym (c.as_slice.ensures.value ∙ c.rules-rules.ensures)) ∙ sym c.at.ensures ∙ ap option_copied c.in-Some-at.is) in
-    let form_is = step_form _ c.always_system.ensures.plain _ _ c.requires.scope.root (c.is_form.ensures.0 c.if-not-is_form.false) in
+    let form_is = step_form _ (plain_system c.always_system.ensures c.requires.theory) _ _ c.requires.scope.root (c.is_form.ensures.0 c.if-not-is_form.false) in
     let premises : c.len.result ≡ length (map judgment_scheme c.in-Some-at.rule.now.premises) = c.len.ensures ∙ sym (length-map c.in-Some-at.rule.now.premises judgment_scheme) in
     let judged = rw c.as_slice-in-Some-at.ensures.value at c.in_ok-is_rule_instance-in-Some-at.ensures in
     is_no_instance _ _ _ _ _ _ _ _ form_is some here (length-map c.args.on.now (λ id. id.0) ∙ sym c.if-len-on.false ∙ premises)

@@ -8,6 +8,7 @@ use Rattle.sy_base.specs.declared.fault.Refusal.TheVariants.{Refused}
 use Rattle.core_proofs.specs.Kept.{Kept}
 use Rattle.core_proofs.specs.Plain.{IsPlainForm}
 use Rattle.core_proofs.specs.Step.{by_rule}
+use Rattle.rule_schemes.proofs.PlainLemmas.{plain_system}
 use Rattle.core_proofs.proofs.Refusing.{IsRefused, refuse_rule_outside, refuse_rule, applied, plain_here}
 use Rattle.core_proofs.proofs.Telling.{told, rule_outside, rule_within}
 use Rattle.core_proofs.proofs.proving.Proving.add_rule_step.Goals as goal
@@ -18,12 +19,12 @@ returns-then-not-self-clause-refused c =
     (refuse_rule_outside c.self.inside c.self.invariant c.args.line c.args.rule.0 (judgment_scheme c.args.form) (map (λ id. id.0) c.args.on) c.if-not-self.true)
 
 pub rule_fault-requires-clause-scope : goal.rule_fault-requires-clause-scope
-rule_fault-requires-clause-scope c = (plain_here c.self.inside c.self.invariant c.always_system.ensures.plain c.if-not-self.false).1.names
+rule_fault-requires-clause-scope c = (plain_here c.self.inside c.self.invariant (plain_system c.always_system.ensures c.self.invariant.plain) c.if-not-self.false).1.names
 
 pub rule_fault-requires-clause-scoped : goal.rule_fault-requires-clause-scoped
 rule_fault-requires-clause-scoped c =
     subst (λ fs. AllByRecursion (IsPlainForm (theory c.self.inside.system) (names c.self.inside.scope)) (map judgment_scheme fs)) (sym c.as_slice-scoped.ensures.value)
-    (plain_here c.self.inside c.self.invariant c.always_system.ensures.plain c.if-not-self.false).1.forms
+    (plain_here c.self.inside c.self.invariant (plain_system c.always_system.ensures c.self.invariant.plain) c.if-not-self.false).1.forms
 
 pub returns-in-Some-clause-refused : goal.returns-in-Some-clause-refused
 returns-in-Some-clause-refused c =

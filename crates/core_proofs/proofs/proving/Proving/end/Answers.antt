@@ -7,6 +7,7 @@ use Rattle.core_proofs.specs.Kept.{Kept, form_at}
 use Rattle.core_proofs.specs.Proof.{outside}
 use Rattle.core_proofs.specs.Step.{end_theorem}
 use Rattle.core_proofs.specs.declared.step.CoreStep.TheVariants.{End}
+use Rattle.rule_schemes.proofs.PlainLemmas.{plain_system}
 use Rattle.core_proofs.proofs.Refusing.{IsRefused, kept_of, refuse_end_outside, refuse_end_silent, stated_within, refuse_end_goal, ends_at, proceeds, provable_at, plain_at, plain_last}
 use Rattle.core_proofs.proofs.Telling.{told, end_outside, end_silent, end_goal}
 use Rattle.core_proofs.proofs.proving.Proving.end.Goals as goal
@@ -27,7 +28,7 @@ pub unreachable-requires : goal.unreachable-requires
 unreachable-requires c =
     let past : slice_get c.self.inside.statements.items c.self.inside.ended ≡ None =
     ap (λ xs. slice_get xs c.self.inside.ended) (sym c.as_slice-2.ensures.value) ∙ sym c.at.ensures ∙ ap option_copied c.in-None-at.is in
-    stated_within c.self.inside c.self.invariant c.always_system.ensures.plain c.if-not-self.false past
+    stated_within c.self.inside c.self.invariant (plain_system c.always_system.ensures c.self.invariant.plain) c.if-not-self.false past
 
 pub has_goal-requires-clause-provable : goal.has_goal-requires-clause-provable
 has_goal-requires-clause-provable c =
@@ -39,13 +40,13 @@ pub has_goal-requires-clause-scope : goal.has_goal-requires-clause-scope
 has_goal-requires-clause-scope c =
     let here : slice_get c.self.inside.statements.items c.self.inside.ended ≡ Some c.in-Some-at.ended.now =
     ap (λ xs. slice_get xs c.self.inside.ended) (sym c.as_slice-2.ensures.value) ∙ sym c.at.ensures ∙ ap option_copied c.in-Some-at.is in
-    (plain_at c.self.inside c.self.invariant c.always_system.ensures.plain c.if-not-self.false c.in-Some-at.ended.now here).begun
+    (plain_at c.self.inside c.self.invariant (plain_system c.always_system.ensures c.self.invariant.plain) c.if-not-self.false c.in-Some-at.ended.now here).begun
 
 pub has_goal-requires-clause-form : goal.has_goal-requires-clause-form
 has_goal-requires-clause-form c =
     let said : form_at (map judgment_scheme c.self.inside.forms.items) c.self.inside.last ≡ Some (judgment_scheme c.in-Some.form.now) =
     ap (λ fs. form_at (map judgment_scheme fs) c.self.inside.last) (sym c.as_slice.ensures.value) ∙ sym c.last_form.ensures ∙ ap (option_map (λ j. judgment_scheme j.now)) c.in-Some.is in
-    plain_last c.self.inside c.self.invariant c.always_system.ensures.plain c.if-not-self.false (judgment_scheme c.in-Some.form.now) said
+    plain_last c.self.inside c.self.invariant (plain_system c.always_system.ensures c.self.invariant.plain) c.if-not-self.false (judgment_scheme c.in-Some.form.now) said
 
 pub returns-then-not-branch-clause-refused : goal.returns-then-not-branch-clause-refused
 returns-then-not-branch-clause-refused c =
