@@ -1,4 +1,12 @@
 pub mod Coding
 pub mod Falls
+pub mod Fitting
+pub mod Inputs
+pub mod Judged
+pub mod Nodes
+pub mod Pairs
 pub mod Parts
+pub mod Pieces
+pub mod Settling
 pub mod View
+pub mod Walk

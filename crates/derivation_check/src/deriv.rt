@@ -149,8 +149,8 @@ impl Deriv {
         Ok(Deriv { node })
     }
 
-    /// The same tree again, in no more than a step.
-    pub fn share(&self) -> Result<Deriv, NoMemory>
+    /// The same tree again, in no more than a step: both share its nodes.
+    pub fn copy(&self, _alloc: Global) -> Result<Deriv, NoMemory>
         ensures { IfOk result (λ d. d ≡ self.now) }
     {
         let node = self.node.clone()?;
@@ -176,7 +176,7 @@ impl Deriv {
         self.node.place
     }
 
-    fn subtrees(&self) -> &[Deriv]
+    pub(crate) fn subtrees(&self) -> &[Deriv]
         ensures { result.now ≡ premises_of self.now }
     {
         self.node.premises.as_slice()
