@@ -22,7 +22,7 @@ fn shared_subtrees_count_each_time(rt: HostRuntime) -> Result<(), Fail> {
     let alloc = rt.alloc();
     let leaf = Deriv::leaf(alloc, RuleId(1), judgment(alloc, 5), 4)?;
     let mut premises = Vec::new(alloc);
-    premises.push(leaf.share()?)?;
+    premises.push(leaf.copy(alloc)?)?;
     premises.push(leaf)?;
     let tree = Deriv::node(alloc, RuleId(2), judgment(alloc, 6), premises)?;
     assert_eq!(rt; tree.rule(), RuleId(2));

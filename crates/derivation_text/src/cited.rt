@@ -22,20 +22,21 @@ pub fn tree_named<'a>(known: &'a [Named], name: &[u8]) -> Option<&'a Deriv>
 }
 
 /// The tree of a name that is cited.
-pub fn tree_at(known: &[Named], t: &Token<'_>) -> Result<Option<Deriv>, NoMemory>
+pub fn tree_at(alloc: Global, known: &[Named], t: &Token<'_>) -> Result<Option<Deriv>, NoMemory>
     ensures { IfOk result (λ tree. tree ≡ found.tree_at known.now (token t.now)) }
 {
     if !is_name_token(t) {
         return Ok(None);
     }
     match tree_named(known, t.text.as_bytes()) {
-        Some(tree) => Ok(Some(tree.share()?)),
+        Some(tree) => Ok(Some(tree.copy(alloc)?)),
         None => Ok(None),
     }
 }
 
 /// Adds the trees of further names, each after a comma. False where the tokens are none.
 fn further_trees(
+    alloc: Global,
     known: &[Named],
     tokens: &[Token<'_>],
     trees: &mut Vec<Deriv>,
@@ -48,7 +49,7 @@ fn further_trees(
         if !is_punctuation(b',', comma) {
             return Ok(false);
         }
-        match tree_at(known, name)? {
+        match tree_at(alloc, known, name)? {
             Some(tree) => trees.push(tree)?,
             None => return Ok(false),
         }
@@ -67,11 +68,11 @@ fn name_trees(
     ensures { IfOk result (λ trees. option_map (λ ds. ds.items) trees ≡ found.name_trees known.now (token first.now ∷ map token rest.now)) }
 {
     let mut trees = Vec::new(alloc);
-    match tree_at(known, first)? {
+    match tree_at(alloc, known, first)? {
         Some(tree) => trees.push(tree)?,
         None => return Ok(None),
     }
-    if further_trees(known, rest, &mut trees)? {
+    if further_trees(alloc, known, rest, &mut trees)? {
         Ok(Some(trees))
     } else {
         Ok(None)

@@ -37,7 +37,7 @@ fn given_trees(
     for arg in args {
         match arg {
             Argument::Name(name) => match tree_named(known, name.bytes()) {
-                Some(tree) => trees.push(tree.share()?)?,
+                Some(tree) => trees.push(tree.copy(alloc)?)?,
                 None => return Ok(None),
             },
             Argument::Term(_) => return Ok(None),

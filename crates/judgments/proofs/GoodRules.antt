@@ -11,6 +11,8 @@ use Rattle.scheme_terms.specs.SchemeScope.{IsScheme, AreSchemeParts, AreSchemes,
 use Rattle.scheme_terms.specs.declared.scheme.MetaDecl.{MetaDecl}
 use Rattle.scheme_terms.specs.declared.scheme.Root.{Root}
 use Rattle.scheme_terms.specs.declared.scheme.Root.TheVariants.{Closed}
+use Rattle.outline_reader.specs.Plain.{PlainPortion}
+use Rattle.rule_schemes.specs.Plain.{IsPlainSignature, HasPlainNames, IsPlainTheory}
 use Rattle.rule_schemes.specs.Reading.{Token}
 use Rattle.rule_schemes.specs.Refused.{Refuses, IsFirstUnstrict, AssumeAlike, with_rule}
 use Rattle.rule_schemes.specs.Rules.{JudgmentScheme, Rule, Theory, rule_root, rule_names, IsJudgmentScheme, IsRootOf, argument_slots, IsBareName, StrictInRule, StrictInJudgment, IsAssumption, IsOneEntry, assumed_by}
@@ -19,17 +21,17 @@ use Rattle.rule_schemes.specs.declared.fault.RuleFault.{RuleFault}
 use Rattle.rule_schemes.specs.declared.fault.RuleFault.TheVariants as faults
 use Rattle.rule_schemes.specs.declared.rule.Judgment.{Judgment}
 use Rattle.judgments.specs.Bare.{IsBareTheory}
-use Rattle.judgments.specs.Built.{IsGoodRule}
+use Rattle.judgments.specs.Built.{IsGoodRule, HasRulesOf}
 use Rattle.judgments.specs.Laws.{AreBareNames}
-use Rattle.judgments.specs.Texts.{RuleText}
-use Rattle.judgments.specs.Theory.{IsBlockRule}
+use Rattle.judgments.specs.Texts.{RuleText, rules_in}
+use Rattle.judgments.specs.Theory.{IsBlockRule, IsTheoryOf}
 use Rattle.judgments.specs.Written.{ReadsOnlyAs}
 use Rattle.judgments.proofs.BareForms.{HasUsed, form_in_scope}
 use Rattle.judgments.proofs.KeptNames.{any_at}
 use Rattle.judgments.proofs.OneRule.{Says, rule_says, plain_for, kept_of, all_front}
 use Rattle.judgments.proofs.RuleLemmas.{closed_names, numbered, no_context_read, over_closed}
 use Rattle.judgments.proofs.StatementLemmas.{place_front, among_at}
-use Rattle.binding_terms.proofs.Lists.{any_back, any_front, any_map, any_split, found_some, zip_both, zip_right}
+use Rattle.binding_terms.proofs.Lists.{all_append, any_back, any_front, any_map, any_split, found_some, zip_both, zip_right}
 use Rattle.rule_schemes.proofs.PlainLemmas.{closed_not_misplaced}
 
 -- where no name has parameters, each place of a name is strict
@@ -169,6 +171,23 @@ module _ (th : Theory) (bare : IsBareTheory th) (text : RuleText) (r : Rule) (h 
     strict = numbered (StrictInRule r) r.metas 0 (λ m d g. (let same : 0 + m ≡ m = omega arith in
         subst (StrictInRule r) (sym same) (strict_name m (any_split (OccursInJudgment m) r.premises (r.conclusion ∷ []) (stands m d g)))));
   }
+
+-- no name of a rule of a bare theory has parameters
+pub plain_rules : (th : Theory) → IsBareTheory th → (texts : List RuleText) (rs : List Rule) → AllZip (IsBlockRule th.sig th.judgments) texts rs → AllByRecursion HasPlainNames rs
+plain_rules th bare texts rs h = zip_right (IsBlockRule th.sig th.judgments) HasPlainNames (λ text r k. (good_rule th bare text r k).plain) texts rs h
+
+pub plain_more : (th more : Theory) (texts : List RuleText) → IsBareTheory th → IsPlainTheory th → HasRulesOf th texts more → IsPlainTheory more
+plain_more th more texts bare plain h =
+    record {
+      sig = subst IsPlainSignature (sym h.sig) plain.sig;
+      rules = subst (AllByRecursion HasPlainNames) (sym h.rules)
+          (all_append HasPlainNames th.rules h.added plain.rules (plain_rules th bare texts h.added h.written));
+    }
+
+-- the theory of a file, where it is bare
+pub plain_theory : (portions : List PlainPortion) (th : Theory) → IsTheoryOf portions th → IsBareTheory th → IsPlainTheory th
+plain_theory portions th is bare =
+    record { sig = bare.sig.plain; rules = plain_rules th bare (rules_in 0 portions) th.rules is.rules }
 
 first_unstrict : (r : Rule) (n m : ℕ) (decls : List MetaDecl) → AllNumbered (λ k decl. StrictInRule r k) n decls → IsFirstUnstrict r n decls m → ⊥
 first_unstrict r n m [] h f = f

@@ -3,7 +3,7 @@ ghost use Rattle.std.specs.Prelude.{◌≡◌, ◌↔◌, [], IsTrue, IfOk, Matc
 ghost use Rattle.std.specs.List.{AllZip, AllByRecursion};
 ghost use Rattle.outline_reader.specs.Views.{portion_view};
 ghost use Rattle.outline_reader.specs.Plain.{plain_portion, outlined};
-ghost use Rattle.rule_schemes.specs.Plain.{IsPlainSignature};
+ghost use Rattle.rule_schemes.specs.Plain.{IsPlainSignature, IsPlainTheory};
 ghost use Rattle.rule_schemes.specs.Rules.{Rule, Theory, JudgmentFits, IsSystem};
 ghost use Rattle.rule_schemes.specs.View.{theory};
 ghost use Rattle.user_grammar.specs.Bare.{IsBareSignature};
@@ -86,7 +86,8 @@ fn with_rules(
     mut sys: System,
     outline: &Outline<'_>,
 ) -> Result<Option<System>, NoMemory>
-    requires { IsBareTheory (theory sys) }
+    requires bare { IsBareTheory (theory sys) }
+    requires plain { IsPlainTheory (theory sys) }
     ensures { IfOk result (λ found. MatchOption found
         ((rs : List Rule) → AllZip (IsBlockRule sys.sig sys.judgments) (rules_in 0 (outlined outline.now)) rs → ⊥)
         (λ new. HasRulesOf (theory sys) (rules_in 0 (outlined outline.now)) (theory new) × IsSystem (theory new))) }

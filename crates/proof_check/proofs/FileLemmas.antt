@@ -14,7 +14,7 @@ use Rattle.rule_schemes.specs.Statement.{Theorem}
 use Rattle.term_reader.specs.Names.{NamesApart}
 use Rattle.notation_parser.specs.Plain.{HasNoVariablesNorParameters, IsPlain}
 use Rattle.core_proofs.specs.Step.{Step, begin_theorem}
-use Rattle.core_proofs.specs.Proof.{IsProofScope}
+use Rattle.proof_trees.specs.Right.{IsProofScope}
 use Rattle.judgments.specs.Written.{settled}
 use Rattle.outline_reader.specs.declared.parts.Portion.TheVariants as portion
 use Rattle.outline_reader.specs.Plain.{PlainPortion, terminals, syntax_word, category, judgment_of, rule_of, theorem_of, step_of, inversion, case_rule, case_term, end_line}

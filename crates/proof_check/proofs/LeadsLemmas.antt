@@ -11,7 +11,8 @@ use Rattle.core_proofs.specs.Step.{Step}
 use Rattle.core_proofs.specs.View.{step}
 use Rattle.core_proofs.specs.declared.step.CoreStep.{CoreStep}
 use Rattle.core_proofs.specs.Kept.{Kept, kept_theory, kept_statements, kept_steps}
-use Rattle.core_proofs.specs.Proof.{Standing, outside, within, begins, by_a_rule, ends, HasGoal, applied_judgment, Leads, no_step, one_step, Proves}
+use Rattle.rule_schemes.specs.Placed.{applied_judgment}
+use Rattle.core_proofs.specs.Proof.{Standing, outside, within, begins, by_a_rule, ends, HasGoal, Leads, no_step, one_step, Proves}
 
 leads_to_front : (th : Theory) (sts : List Theorem) (at to : Standing) (front rest : List Step) → Leads th sts at (front ++ rest) to → (mid : Standing) × Leads th sts at front mid
 leads_to_front th sts at to [] rest leads = (at, no_step)

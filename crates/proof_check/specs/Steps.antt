@@ -6,7 +6,7 @@ use Rattle.scheme_terms.specs.Forms.{Names}
 use Rattle.rule_schemes.specs.Rules.{JudgmentScheme, Theory}
 use Rattle.rule_schemes.specs.Statement.{Theorem}
 use Rattle.core_proofs.specs.Step.{Step, begin_theorem, end_theorem, by_rule}
-use Rattle.core_proofs.specs.Proof.{IsProofScope}
+use Rattle.proof_trees.specs.Right.{IsProofScope}
 use Rattle.sy_base.specs.Tokens.{PlainToken}
 use Rattle.outline_reader.specs.declared.fault.Part.{Part}
 use Rattle.outline_reader.specs.declared.fault.Part.TheVariants as parts

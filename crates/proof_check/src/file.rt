@@ -7,6 +7,7 @@ ghost use Rattle.user_grammar.specs.Bare.{IsBareSignature};
 ghost use Rattle.judgments.specs.Theory.{IsTheoryOf};
 ghost use Rattle.judgments.specs.Statements.{AreStatementsOf};
 ghost use Rattle.judgments.specs.Bare.{IsBareTheory, IsBareStatement};
+ghost use Rattle.rule_schemes.specs.Plain.{IsPlainTheory};
 ghost use Rattle.rule_schemes.specs.View.{theory, statement as plain_statement};
 ghost use Rattle.core_proofs.specs.View.{step as plain_step};
 ghost use Rattle.core_proofs.specs.Proof.{Proves};
@@ -31,6 +32,7 @@ fn prove(
     statements: Vec<Statement>,
     steps: Vec<CoreStep>,
 ) -> Result<Option<Accepted>, NoMemory>
+    requires plain { IsPlainTheory (theory system) }
     requires provable { AllByRecursion (IsProvable (theory system)) (map plain_statement statements.items) }
     requires count { vec_len statements < 2 ^ 32 }
     ensures { IfOk result (λ found. MatchOption found

@@ -4,7 +4,7 @@ ghost use Rattle.scheme_terms.specs.View.{names};
 ghost use Rattle.rule_schemes.specs.View.{statement as plain};
 ghost use Rattle.notation_parser.specs.View.{reading_scope};
 ghost use Rattle.judgments.specs.Written.{settled};
-ghost use Rattle.core_proofs.specs.Proof.{IsProofScope};
+ghost use Rattle.proof_trees.specs.Right.{IsProofScope};
 ghost use Rattle.proof_check.specs.Finding.{Finds};
 
 use binding_terms::NoMemory;

@@ -6,7 +6,8 @@ use Rattle.scheme_terms.specs.Forms.{Names}
 use Rattle.rule_schemes.specs.Rules.{Theory}
 use Rattle.rule_schemes.specs.Statement.{Theorem}
 use Rattle.core_proofs.specs.Step.{Step, begin_theorem, end_theorem, by_rule}
-use Rattle.core_proofs.specs.Proof.{IsProofScope, given_judgments, Standing, outside, within, Leads, Proves}
+use Rattle.proof_trees.specs.Right.{IsProofScope}
+use Rattle.core_proofs.specs.Proof.{given_judgments, Standing, outside, within, Leads, Proves}
 use Rattle.core_proofs.proofs.Moving.{Begins, Follows, leads_on}
 
 -- how far the theorems are: two for each ended one, and one for the one that was begun

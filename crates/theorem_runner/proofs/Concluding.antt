@@ -18,7 +18,9 @@ use Rattle.rule_schemes.specs.Rules.{JudgmentScheme, Theory, IsInstance, AreClos
 use Rattle.rule_schemes.specs.Derivation.{Derivation, judgment, Derives}
 use Rattle.rule_schemes.specs.Statement.{Theorem, InputTree, DeriveConclusions, given_value, IsOfInputs, IsOfOutputs, IsStatementForm}
 use Rattle.core_proofs.specs.Plain.{IsPlainForm}
-use Rattle.core_proofs.specs.Proof.{IsProofScope, applied_judgment, itself}
+use Rattle.proof_trees.specs.Right.{IsProofScope}
+use Rattle.rule_schemes.specs.Placed.{applied_judgment}
+use Rattle.core_proofs.specs.Proof.{itself}
 use Rattle.core_proofs.specs.Laws.{DerivesGoal}
 use Rattle.core_proofs.specs.Provable.{IsProvable}
 use Rattle.core_proofs.proofs.ClosedForms.{closed_form, no_value, instances_applied}

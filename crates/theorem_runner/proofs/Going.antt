@@ -14,8 +14,10 @@ use Rattle.core_proofs.specs.declared.step.StepId.{StepId}
 use Rattle.core_proofs.specs.View.{step}
 use Rattle.core_proofs.specs.RuleStep.{AreCited}
 use Rattle.core_proofs.specs.Step.{Step, begin_theorem, end_theorem, by_rule}
-use Rattle.core_proofs.specs.Proof.{IsProofScope, given_judgments, Standing, outside, within, Leads, Proves}
-use Rattle.core_proofs.specs.Value.{subtrees, given_trees, AreCitedTrees, Makes, makes_node, makes_last, HasValue}
+use Rattle.proof_trees.specs.Right.{IsProofScope}
+use Rattle.core_proofs.specs.Proof.{given_judgments, Standing, outside, within, Leads, Proves}
+use Rattle.proof_trees.specs.Value.{subtrees}
+use Rattle.core_proofs.specs.Value.{given_trees, AreCitedTrees, Makes, makes_node, makes_last, HasValue}
 use Rattle.core_proofs.proofs.Moving.{leads_on}
 use Rattle.theorem_runner.specs.Instances.{IsDerived, Gives}
 use Rattle.theorem_runner.specs.Laws.{ArePlainProofs}

@@ -1,6 +1,7 @@
 pub mod Bodies
 pub mod Concluding
 pub mod Going
+pub mod OnTrees
 pub mod OneInstance
 pub mod Pairing
 pub mod Pairs

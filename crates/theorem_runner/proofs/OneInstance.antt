@@ -18,7 +18,8 @@ use Rattle.rule_schemes.specs.Rules.{JudgmentScheme, JudgmentValue, Theory, Stri
 use Rattle.rule_schemes.specs.Derivation.{judgment}
 use Rattle.rule_schemes.specs.Statement.{StatementInput, given, syntax_input, Theorem, InputTree, derived, term, IsGiven, IsOfInputs, StrictInInput, StrictInStatement}
 use Rattle.core_proofs.specs.Plain.{IsPlainForm}
-use Rattle.core_proofs.specs.Proof.{IsProofScope, given_judgments}
+use Rattle.proof_trees.specs.Right.{IsProofScope}
+use Rattle.core_proofs.specs.Proof.{given_judgments}
 use Rattle.core_proofs.specs.Provable.{IsProvable, IsOfDerivation}
 use Rattle.core_proofs.proofs.RuleFitting.{places, bare}
 use Rattle.theorem_runner.specs.Instances.{Gives}

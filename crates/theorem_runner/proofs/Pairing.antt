@@ -22,7 +22,8 @@ use Rattle.rule_schemes.proofs.DerivationLemmas.{derives_a_judgment}
 use Rattle.scheme_match.specs.Matching.{Matched, judgments, Matching, JudgmentsFit, MakesEqual, IsMatch, IsOnlyMatch, StrictInPair, AreStrict}
 use Rattle.scheme_match.proofs.Fitting.{forms_fit}
 use Rattle.core_proofs.specs.Plain.{IsPlainForm}
-use Rattle.core_proofs.specs.Proof.{IsProofScope, given_judgments}
+use Rattle.proof_trees.specs.Right.{IsProofScope}
+use Rattle.core_proofs.specs.Proof.{given_judgments}
 use Rattle.core_proofs.specs.Provable.{IsProvable, IsOfDerivation}
 use Rattle.theorem_runner.specs.Instances.{no_context_value, IsDerived, Gives, IsOnlyInstance}
 use Rattle.theorem_runner.proofs.Pairs.{put_pair, input_pairs}

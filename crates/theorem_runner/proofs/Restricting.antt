@@ -12,7 +12,8 @@ use Rattle.rule_schemes.specs.Plain.{IsPlainSystem}
 use Rattle.rule_schemes.specs.Rules.{Theory}
 use Rattle.rule_schemes.specs.Statement.{StatementInput, given, syntax_input, Theorem, InputTree, derived, term, IsGiven, given_value, FitsFor, IsInstantiation, Instantiates, IsOfInputs, OccursInInput}
 use Rattle.core_proofs.specs.Plain.{IsPlainForm}
-use Rattle.core_proofs.specs.Proof.{IsProofScope, given_judgments}
+use Rattle.proof_trees.specs.Right.{IsProofScope}
+use Rattle.core_proofs.specs.Proof.{given_judgments}
 use Rattle.core_proofs.specs.Provable.{IsProvable, IsOfDerivation}
 use Rattle.core_proofs.proofs.Keeping.{plain_scope, plain_beginning}
 use Rattle.theorem_runner.specs.Instances.{Gives, IsOnlyInstance}

@@ -12,7 +12,8 @@ use Rattle.rule_schemes.specs.Statement.{StatementInput, given, syntax_input, Th
 use Rattle.core_proofs.specs.Laws.{SpeaksOfNoContext, AreDerived, DerivesGoal}
 use Rattle.core_proofs.specs.Plain.{IsPlainForm}
 use Rattle.core_proofs.specs.Step.{Step}
-use Rattle.core_proofs.specs.Proof.{IsProofScope, given_judgments, outside, within, Leads}
+use Rattle.proof_trees.specs.Right.{IsProofScope}
+use Rattle.core_proofs.specs.Proof.{given_judgments, outside, within, Leads}
 use Rattle.core_proofs.specs.Provable.{IsProvable}
 use Rattle.core_proofs.specs.Value.{given_trees, Makes, HasValue}
 use Rattle.core_proofs.proofs.Made.{makes_derives}

@@ -10,7 +10,8 @@ use Rattle.rule_schemes.specs.Statement.{Theorem}
 use Rattle.core_proofs.specs.RuleStep.{AreCited}
 use Rattle.core_proofs.specs.Step.{Step, begin_theorem, end_theorem, by_rule}
 use Rattle.core_proofs.specs.Proof.{Standing, outside, within, Leads}
-use Rattle.core_proofs.specs.Value.{subtrees, AreCitedTrees, Makes, makes_node, makes_last}
+use Rattle.proof_trees.specs.Value.{subtrees}
+use Rattle.core_proofs.specs.Value.{AreCitedTrees, Makes, makes_node, makes_last}
 use Rattle.core_proofs.proofs.Moving.{leads_on}
 use Rattle.theorem_runner.specs.Runs.{GoesWith}
 

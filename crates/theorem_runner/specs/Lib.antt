@@ -1,4 +1,4 @@
 pub mod Instances
 pub mod Laws
 pub mod Runs
-pub mod View
+pub mod TreeRuns

@@ -2,17 +2,18 @@
 ghost use Rattle.std.specs.Prelude.{◌≡◌, ◌↔◌, ◌<◌, IsTrue, IfOk, Some, length, option_map, slice_get, MatchOption};
 ghost use Rattle.std.specs.List.{AllByRecursion};
 ghost use Rattle.scheme_terms.specs.View.{names, context_value, instance};
+ghost use Rattle.rule_schemes.specs.Plain.{IsPlainTheory};
 ghost use Rattle.rule_schemes.specs.View.{theory, statement};
 ghost use Rattle.rule_schemes.specs.Statement.{Instantiates};
 ghost use Rattle.core_proofs.specs.Kept.{kept_theory, kept_statements};
-ghost use Rattle.core_proofs.specs.Proof.{IsProofScope};
+ghost use Rattle.proof_trees.specs.Right.{IsProofScope};
 ghost use Rattle.core_proofs.specs.Provable.{IsProvable};
 ghost use Rattle.theorem_runner.specs.Instances.{no_context_value, IsDerived, Gives, IsOnlyInstance};
-ghost use Rattle.theorem_runner.specs.View.{input_trees};
+ghost use Rattle.derivation_check.specs.Inputs.{input_trees};
 
-use crate::inputs::{InputValue, Inputs};
 use binding_terms::NoMemory;
 use core_proofs::{Accepted, proof_scope};
+use derivation_check::{InputValue, Inputs};
 use rule_schemes::{Input, Statement, System, TheoremId};
 use scheme_match::Matcher;
 use scheme_terms::{CtxValue, Inst, Scope};
@@ -28,6 +29,7 @@ pub(crate) fn instance_of_inputs(
     root: &CtxValue,
     inputs: &Inputs,
 ) -> Result<Option<Inst>, NoMemory>
+    requires theory { IsPlainTheory (theory system.now) }
     requires provable { IsProvable (theory system.now) (statement of.now) }
     requires scope { IsProofScope (statement of.now) (names scope.now) }
     requires root { context_value root.now ≡ no_context_value }
@@ -61,6 +63,7 @@ pub(crate) fn given_instance(
     root: &CtxValue,
     inputs: &Inputs,
 ) -> Result<Inst, NoMemory>
+    requires theory { IsPlainTheory (theory system.now) }
     requires provable { IsProvable (theory system.now) (statement of.now) }
     requires scope { IsProofScope (statement of.now) (names scope.now) }
     requires inputs { Instantiates (theory system.now) (statement of.now) (context_value root.now) (input_trees inputs.now) }

@@ -9,16 +9,18 @@ ghost use Rattle.rule_schemes.specs.View.{judgment_scheme};
 ghost use Rattle.core_proofs.specs.Kept.{kept_theory, kept_statements, kept_steps};
 ghost use Rattle.core_proofs.specs.Step.{begin_theorem};
 ghost use Rattle.core_proofs.specs.View.{step as plain_step};
-ghost use Rattle.core_proofs.specs.Value.{given_trees as plain_trees, subtrees, AreCitedTrees, Makes};
+ghost use Rattle.proof_trees.specs.Value.{subtrees};
+ghost use Rattle.core_proofs.specs.Value.{given_trees as plain_trees, AreCitedTrees, Makes};
+ghost use Rattle.core_proofs.specs.Trees.{whole_steps};
 ghost use Rattle.theorem_runner.specs.Runs.{IsRun, Starts};
-ghost use Rattle.theorem_runner.specs.View.{input_trees};
+ghost use Rattle.theorem_runner.specs.TreeRuns.{IsValueOnTrees};
+ghost use Rattle.derivation_check.specs.Inputs.{input_trees};
 
 use crate::grounding::ground_form;
-use crate::inputs::{InputValue, Inputs};
 use crate::matching::given_instance;
 use binding_terms::NoMemory;
 use core_proofs::{Accepted, CoreStep, StepId, proof_scope};
-use derivation_check::Deriv;
+use derivation_check::{Deriv, InputValue, Inputs};
 use rule_schemes::{JScheme, RuleId, TheoremId};
 use scheme_terms::{CtxValue, Inst};
 use std::alloc::Global;
@@ -36,7 +38,7 @@ fn given_trees(alloc: Global, inputs: &Inputs) -> Result<Vec<Deriv>, NoMemory>
     let mut all = Vec::new(alloc);
     for input in inputs.items.as_slice() {
         if let InputValue::Tree(tree) = input {
-            all.push(tree.share()?)?;
+            all.push(tree.copy(alloc)?)?;
         }
     }
     Ok(all)
@@ -49,7 +51,7 @@ fn cited_trees(alloc: Global, made: &[Deriv], on: &[StepId]) -> Result<Vec<Deriv
 {
     let mut all = Vec::new(alloc);
     for id in on {
-        let tree = made[id.0 as usize].share()?;
+        let tree = made[id.0 as usize].copy(alloc)?;
         all.push(tree)?;
     }
     Ok(all)
@@ -157,6 +159,8 @@ pub fn run(
     requires inputs { MatchOption (slice_get (kept_statements acc.now) theorem.0) ⊥
         (λ st. Instantiates (kept_theory acc.now) st (context_value ctx.now) (input_trees inputs.now)) }
     ensures value { IfOk result (λ r. IsRun (kept_theory acc.now) (kept_statements acc.now) (kept_steps acc.now) theorem.0
+        (context_value ctx.now) (input_trees inputs.now) r.derivs.items) }
+    ensures trees { IfOk result (λ r. IsValueOnTrees (kept_theory acc.now) (kept_statements acc.now) (whole_steps acc.now) theorem.0
         (context_value ctx.now) (input_trees inputs.now) r.derivs.items) }
 {
     acc.always_accepted();

@@ -33,7 +33,7 @@ pub add_premises-requires-clause-fit : goal.add_premises-requires-clause-fit
 add_premises-requires-clause-fit c =
     let th = theory c.args.sys.now in
     let r = plain_rule c.args.rule.now in
-    fit_over th c.requires.bare c.always_system.ensures.plain.so_far r c.args.trees.now _ _ _ c.requires.fits
+    fit_over th c.requires.bare c.always_system.ensures r c.args.trees.now _ _ _ c.requires.fits
     (length-map c.args.rule.now.premises judgment_scheme ∙ sym (ap length c.as_slice-premises.ensures) ∙ c.if-premises-trees.false) c.requires.derive
     (ap (λ (m : Matching). m.sig) (c.in_ok-add.ensures.ok) ∙ ap (λ (m : Matching). m.sig) c.in_ok-matcher.ensures ∙ c.sig.ensures)
     (ap (λ (m : Matching). m.metas) (c.in_ok-add.ensures.ok) ∙ ap (λ (m : Matching). m.metas) c.in_ok-matcher.ensures ∙ c.as_slice.ensures)

@@ -14,19 +14,19 @@ use Rattle.binding_terms.proofs.Lists.{all_at}
 pub is_node-requires-clause-fits : goal.is_node-requires-clause-fits
 is_node-requires-clause-fits c =
     let th = theory c.args.sys.now in
-    all_at (RuleFits th) th.rules c.args.number (plain_rule c.index-rule.result.now) c.always_system.ensures.plain.so_far.rules
+    all_at (RuleFits th) th.rules c.args.number (plain_rule c.index-rule.result.now) c.always_system.ensures.rules
     (rule_at c.args.sys.now.rules _ c.args.number c.index-rule.result.now c.rules.ensures c.index-rule.ensures c.requires.number)
 
 pub is_node-requires-clause-plain : goal.is_node-requires-clause-plain
 is_node-requires-clause-plain c =
     let th = theory c.args.sys.now in
-    all_at HasPlainNames th.rules c.args.number (plain_rule c.index-rule.result.now) c.always_system.ensures.plain.plain.rules
+    all_at HasPlainNames th.rules c.args.number (plain_rule c.index-rule.result.now) c.requires.bare.plain.rules
     (rule_at c.args.sys.now.rules _ c.args.number c.index-rule.result.now c.rules.ensures c.index-rule.ensures c.requires.number)
 
 pub returns-then-not-branch : goal.returns-then-not-branch
 returns-then-not-branch c =
     let th = theory c.args.sys.now in
-    no_tree th c.requires.bare c.always_system.ensures.plain.so_far c.args.number (judgment_value c.args.judgment) c.args.trees.items (plain_rule c.index-rule.result.now)
+    no_tree th c.requires.bare c.always_system.ensures c.args.number (judgment_value c.args.judgment) c.args.trees.items (plain_rule c.index-rule.result.now)
     (rule_at c.args.sys.now.rules _ c.args.number c.index-rule.result.now c.rules.ensures c.index-rule.ensures c.requires.number)
     (λ n. not_when c.in_ok-is_node.ensures c.if-not-branch.true (subst (λ (ds : List Derivation). IsNodeOf th (judgment_value c.args.judgment) (subtrees_of ds) (plain_rule c.index-rule.result.now)) (sym c.as_slice.ensures.value) n))
 

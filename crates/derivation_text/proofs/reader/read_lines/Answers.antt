@@ -45,7 +45,7 @@ loop-at-preserved c =
     let more = c.first_line.result.1.now in
     let lines = lines_at c.args.tokens.now c.loop-at.at line more c.first_line.ensures.lines in
     let names = seen_as th c.loop-at.named _ line c.in_ok-look_at.field-0 (Tree c.in-Tree.one) c.as_slice.ensures c.in_ok-look_at.ensures c.in-Tree.is in
-    let so_far = c.always_system.ensures.plain.so_far in
+    let so_far = c.always_system.ensures in
     let known : c.push.new.self ≡ c.loop-at.named ++ c.in-Tree.one ∷ [] = c.in_ok-push-in-Tree.ensures.ok in
     let next = next_at c.args.tokens.now front more c.loop-at.at c.loop-at.invariant.0 c.first_line.ensures.parts in (
       next_within c.args.tokens.now front more c.loop-at.at c.loop-at.invariant.0 c.first_line.ensures.parts,

@@ -2,6 +2,7 @@ use Rattle.std.proofs.Common.{◌≡◌, sym, subst, List, MatchOption, Option, 
 use Rattle.std.specs.List.{AllZip}
 use Rattle.outline_reader.specs.Plain.{outlined}
 use Rattle.rule_schemes.specs.Parts.{Parts}
+use Rattle.rule_schemes.specs.Plain.{IsPlainTheory}
 use Rattle.rule_schemes.specs.Rules.{Theory, Rule, IsSystem}
 use Rattle.rule_schemes.specs.View.{theory}
 use Rattle.judgments.specs.Bare.{IsBareTheory}
@@ -16,8 +17,11 @@ without_rules-requires-clause-fit c =
     let names = c.names_differ.ensures.0 c.if-not-names_differ.false in
     all_fit c.args.sig (outlined c.args.outline.now) c.requires names.2 c.in-Some.judgments.items (rw c.in-Some.is at c.in_ok-judgments.ensures)
 
-pub with_rules-requires : goal.with_rules-requires
-with_rules-requires c =
+pub with_rules-requires-clause-plain : goal.with_rules-requires-clause-plain
+with_rules-requires-clause-plain c = subst IsPlainTheory (sym c.in_ok-without_rules-in-Some.ensures) (record { sig = c.requires.plain; rules = tt })
+
+pub with_rules-requires-clause-bare : goal.with_rules-requires-clause-bare
+with_rules-requires-clause-bare c =
     let names = c.names_differ.ensures.0 c.if-not-names_differ.false in
     let built = rw c.in-Some.is at c.in_ok-judgments.ensures in
     subst IsBareTheory (sym c.in_ok-without_rules-in-Some.ensures) (start_bare c.args.sig (outlined c.args.outline.now) c.requires names.2 c.in-Some.judgments.items built)

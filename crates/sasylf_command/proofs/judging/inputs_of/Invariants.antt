@@ -1,7 +1,7 @@
 use Rattle.std.proofs.Common.{◌≡◌, ◌++◌, map}
 use Rattle.std.specs.Vec.Iter.{into_iter_items}
 use Rattle.rule_schemes.specs.Statement.{derived}
-use Rattle.theorem_runner.specs.View.{input_tree}
+use Rattle.derivation_check.specs.Inputs.{input_tree}
 use Rattle.sasylf_command.proofs.judging.inputs_of.Given as goal
 
 abbrev pub invariant-loop-tree : goal.invariant-loop-tree

@@ -14,9 +14,10 @@ use Rattle.pattern_unify.proofs.Places.{within as place_within}
 use Rattle.rule_schemes.specs.Rules.{JudgmentValue}
 use Rattle.scheme_match.specs.Matching.{Matching, judgments, StrictInPair, IsOnlyMatch, JudgmentsFit}
 use Rattle.core_proofs.specs.Plain.{IsPlainForm}
+use Rattle.rule_schemes.proofs.PlainLemmas.{plain_system}
 use Rattle.theorem_runner.specs.Instances.{IsDerived, IsOnlyInstance}
 use Rattle.theorem_runner.proofs.Pairs.{input_pairs}
-use Rattle.theorem_runner.specs.View.{input_tree, input_trees}
+use Rattle.derivation_check.specs.Inputs.{input_tree, input_trees}
 use Rattle.theorem_runner.proofs.Pairing.{uncounted, unpaired, pairs_stop, pairs_more, pairs_end, given_at, judgments_fit, are_strict, only_instance}
 use Rattle.theorem_runner.proofs.Restricting.{forms_plain}
 use Rattle.theorem_runner.proofs.matching.instance_of_inputs.Goals as goal
@@ -27,7 +28,7 @@ returns-then-len c =
     let items : length (input_trees c.args.inputs.now) ≡ c.len.result =
     length-map c.args.inputs.now.items.items input_tree
     ∙ sym (c.len.ensures ∙ (let e : vec_len c.args.inputs.now.items ≡ length c.args.inputs.now.items.items = omega (arith, c.args.inputs.now.items.ok.0) in e)) in
-    uncounted _ c.always_system.ensures.plain _ c.requires.provable _ c.requires.scope _ _ (λ same. c.if-len.true (sym (sym inputs ∙ same ∙ items)))
+    uncounted _ (plain_system c.always_system.ensures c.requires.theory) _ c.requires.provable _ c.requires.scope _ _ (λ same. c.if-len.true (sym (sym inputs ∙ same ∙ items)))
 
 pub add-requires : goal.add-requires
 add-requires c =
@@ -38,7 +39,7 @@ add-requires c =
     let given_here : slice_get (map statement_input c.args.of.now.inputs) c.loop-i.i ≡ Some (given (judgment_scheme c.in-Given.form)) =
     slice_get-map statement_input c.args.of.now.inputs c.loop-i.i ∙ ap (option_map statement_input) (form_here ∙ ap Some c.in-Given.is) in
     let plain = given_at (IsPlainForm (theory c.args.system.now) (names c.args.scope.now)) (map statement_input c.args.of.now.inputs) c.loop-i.i (judgment_scheme c.in-Given.form)
-    (forms_plain (theory c.args.system.now) c.always_system.ensures.plain (statement c.args.of.now) c.requires.provable (names c.args.scope.now) c.requires.scope) given_here in
+    (forms_plain (theory c.args.system.now) (plain_system c.always_system.ensures c.requires.theory) (statement c.args.of.now) c.requires.provable (names c.args.scope.now) c.requires.scope) given_here in
     let item_here : slice_get c.args.inputs.now.items.items c.loop-i.i ≡ Some c.index.result.now =
     slice_get_read c.args.inputs.now.items.items (length c.args.inputs.now.items.items) c.loop-i.i c.index.result.now refl
     (omega (arith, c.loop-i-test.true, c.len-i-end.ensures, c.args.inputs.now.items.ok.0)) c.index.ensures in
@@ -46,7 +47,7 @@ add-requires c =
     slice_get-map input_tree c.args.inputs.now.items.items c.loop-i.i ∙ ap (option_map input_tree) (item_here ∙ ap Some c.in-Tree.is) in
     let derives : Derives (theory c.args.system.now) c.in-Tree.tree =
     all_at (IsDerived (theory c.args.system.now)) (map input_tree c.args.inputs.now.items.items) c.loop-i.i (derived c.in-Tree.tree) c.requires.derived tree_here in
-    let fit = judgments_fit (theory c.args.system.now) c.always_system.ensures.plain (statement c.args.of.now) c.requires.provable (names c.args.scope.now) c.requires.scope
+    let fit = judgments_fit (theory c.args.system.now) (plain_system c.always_system.ensures c.requires.theory) (statement c.args.of.now) c.requires.provable (names c.args.scope.now) c.requires.scope
     (judgment_scheme c.in-Given.form) c.in-Tree.tree plain derives in
     subst (λ sig. (judgment_scheme c.in-Given.form).judgment ≡ (judgment_value c.conclusion.result.now).judgment →
     JudgmentsFit sig c.loop-i.matcher.metas (judgment_scheme c.in-Given.form) (judgment_value c.conclusion.result.now)) (sym c.loop-i.invariant.sig)
@@ -66,7 +67,7 @@ returns-in-Syntax-index c =
     (omega (arith, c.loop-i-test.true, c.len-i-end.ensures, c.args.inputs.now.items.ok.0)) c.index.ensures in
     let of_term : input_tree c.index.result.now ≡ term (tree c.in-Syntax-index.field-0) = ap input_tree c.in-Syntax-index.is in
     let is_given : statement_input c.index-as_slice-i.result ≡ given (judgment_scheme c.in-Given.form) = ap statement_input c.in-Given.is in
-    unpaired _ c.always_system.ensures.plain _ c.requires.provable _ c.requires.scope _ _
+    unpaired _ (plain_system c.always_system.ensures c.requires.theory) _ c.requires.provable _ c.requires.scope _ _
     (pairs_stop statement_input input_tree c.args.of.now.inputs c.args.inputs.now.items.items c.loop-i.i c.index-as_slice-i.result c.index.result.now form_here item_here
     c.loop-i.matcher.pairs _ (λ is xs. ap (λ x. input_pairs (x ∷ is) (input_tree c.index.result.now ∷ xs)) is_given
     ∙ ap (λ y. input_pairs (given (judgment_scheme c.in-Given.form) ∷ is) (y ∷ xs)) of_term) c.loop-i.invariant.pairs)
@@ -80,7 +81,7 @@ returns-in-Syntax c =
     let below : c.loop-i.i < length c.args.inputs.now.items.items = omega (arith, c.loop-i-test.true, c.len-i-end.ensures, c.args.inputs.now.items.ok.0) in
     let item = place_within c.args.inputs.now.items.items c.loop-i.i below in
     let is_syntax : statement_input c.index-as_slice-i.result ≡ syntax_input c.in-Syntax.field-0.0 = ap statement_input c.in-Syntax.is in
-    unpaired _ c.always_system.ensures.plain _ c.requires.provable _ c.requires.scope _ _
+    unpaired _ (plain_system c.always_system.ensures c.requires.theory) _ c.requires.provable _ c.requires.scope _ _
     (pairs_stop statement_input input_tree c.args.of.now.inputs c.args.inputs.now.items.items c.loop-i.i c.index-as_slice-i.result item.0 form_here item.1
     c.loop-i.matcher.pairs _ (λ is xs. ap (λ x. input_pairs (x ∷ is) (input_tree item.0 ∷ xs)) is_syntax) c.loop-i.invariant.pairs)
 
@@ -110,7 +111,7 @@ finish-requires c =
     let paired = pairs_end statement_input input_tree c.args.of.now.inputs c.args.inputs.now.items.items c.loop-i.i c.loop-i.matcher.pairs _
     (omega (arith, c.loop-i-test.false, c.len-i-end.ensures, c.len.ensures, c.if-len.false, c.len-2.ensures))
     (omega (arith, c.loop-i-test.false, c.len-i-end.ensures, c.args.inputs.now.items.ok.0)) c.loop-i.invariant.pairs in
-    let strict = are_strict (theory c.args.system.now) c.always_system.ensures.plain (statement c.args.of.now) c.requires.provable (names c.args.scope.now) c.requires.scope
+    let strict = are_strict (theory c.args.system.now) (plain_system c.always_system.ensures c.requires.theory) (statement c.args.of.now) c.requires.provable (names c.args.scope.now) c.requires.scope
     (context_value c.args.root.now) (input_trees c.args.inputs.now) c.requires.root c.requires.derived c.loop-i.matcher.pairs paired in
     subst (λ ms. AllNumbered (λ n decl. AnyByRecursion (StrictInPair n) c.loop-i.matcher.pairs) 0 ms) (sym c.loop-i.invariant.metas) strict
 
@@ -123,6 +124,6 @@ returns c =
     λ i. record { sig = c.loop-i.invariant.sig i; metas = c.loop-i.invariant.metas i; knowns = c.loop-i.invariant.knowns i; root = c.loop-i.invariant.root i; pairs = c.loop-i.matcher.pairs } in
     IfOk-weaker c.finish.result (λ answer. IsOnlyMatch c.loop-i.matcher (option_map instance answer))
     (λ answer. IsOnlyInstance (theory c.args.system.now) (statement c.args.of.now) (names c.args.scope.now) (context_value c.args.root.now) (input_trees c.args.inputs.now) (option_map instance answer))
-    (λ answer one. only_instance (theory c.args.system.now) c.always_system.ensures.plain (statement c.args.of.now) c.requires.provable (names c.args.scope.now) c.requires.scope
+    (λ answer one. only_instance (theory c.args.system.now) (plain_system c.always_system.ensures c.requires.theory) (statement c.args.of.now) c.requires.provable (names c.args.scope.now) c.requires.scope
     (context_value c.args.root.now) (input_trees c.args.inputs.now) c.requires.root c.requires.derived c.loop-i.matcher.pairs paired (option_map instance answer)
     (subst (λ (m : Matching). IsOnlyMatch m (option_map instance answer)) same one)) c.finish.ensures

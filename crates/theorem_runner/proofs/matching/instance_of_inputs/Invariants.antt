@@ -3,7 +3,7 @@ use Rattle.std.specs.Prelude.{option_map}
 use Rattle.scheme_terms.specs.View.{context_value}
 use Rattle.rule_schemes.specs.View.{statement_input}
 use Rattle.theorem_runner.proofs.Pairs.{input_pairs}
-use Rattle.theorem_runner.specs.View.{input_tree}
+use Rattle.derivation_check.specs.Inputs.{input_tree}
 use Rattle.theorem_runner.proofs.matching.instance_of_inputs.Given as goal
 
 abbrev pub invariant-loop-i : goal.invariant-loop-i

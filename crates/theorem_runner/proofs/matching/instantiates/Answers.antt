@@ -6,13 +6,15 @@ use Rattle.scheme_terms.specs.Forms.{ContextValue}
 use Rattle.scheme_terms.specs.View.{names, context_value, ground_entry, instance}
 use Rattle.pattern_unify.proofs.PlainSchemes.{all_at}
 use Rattle.rule_schemes.specs.Parts.{Parts}
-use Rattle.rule_schemes.specs.Plain.{IsPlainSystem}
+use Rattle.rule_schemes.specs.Plain.{IsPlainSystem, IsPlainTheory}
+use Rattle.rule_schemes.specs.Rules.{IsSystemSoFar}
 use Rattle.rule_schemes.specs.View.{theory, statement}
 use Rattle.rule_schemes.specs.Statement.{Instantiates}
 use Rattle.core_proofs.specs.Kept.{kept_theory, kept_statements}
 use Rattle.core_proofs.specs.Provable.{IsProvable}
+use Rattle.rule_schemes.proofs.PlainLemmas.{plain_system}
 use Rattle.theorem_runner.specs.Instances.{no_context_value, IsDerived, IsOnlyInstance}
-use Rattle.theorem_runner.specs.View.{input_trees}
+use Rattle.derivation_check.specs.Inputs.{input_trees}
 use Rattle.theorem_runner.proofs.Restricting.{instantiated}
 use Rattle.theorem_runner.proofs.matching.instantiates.Goals as goal
 use Rattle.binding_terms.proofs.Lists.{is_some_mapped, match_from}
@@ -27,6 +29,10 @@ proof_scope-requires c =
       last = (all_at (IsProvable (kept_theory c.args.acc.now)) (kept_statements c.args.acc.now) c.args.theorem.0 (statement c.index-of.result.now) c.always_accepted.ensures.provable
           (slice_get-map statement c.args.acc.now.statements c.args.theorem.0 ∙ ap (option_map statement) here)).goal_names_last;
     }
+
+pub instance_of_inputs-requires-clause-theory : goal.instance_of_inputs-requires-clause-theory
+instance_of_inputs-requires-clause-theory c =
+    subst (λ (s : Parts). IsPlainTheory (theory s)) (sym c.system-system.ensures) c.always_accepted.ensures.plain
 
 pub instance_of_inputs-requires-clause-provable : goal.instance_of_inputs-requires-clause-provable
 instance_of_inputs-requires-clause-provable c =
@@ -52,7 +58,7 @@ returns c =
     slice_get-map statement c.args.acc.now.statements c.args.theorem.0 ∙ ap (option_map statement) here in
     let provable = all_at (IsProvable (kept_theory c.args.acc.now)) (kept_statements c.args.acc.now) c.args.theorem.0 (statement c.index-of.result.now) c.always_accepted.ensures.provable there in
     let closed : context_value (record { cat = None; entries = c.new.result }) ≡ no_context_value = ap (λ es. record { cat = None; entries = map ground_entry es }) c.new.ensures in
-    let system : IsPlainSystem (kept_theory c.args.acc.now) = subst (λ (s : Parts). IsPlainSystem (theory s)) c.system-system.ensures c.always_system.ensures.plain in
+    let system : IsPlainSystem (kept_theory c.args.acc.now) = plain_system (subst (λ (s : Parts). IsSystemSoFar (theory s)) c.system-system.ensures c.always_system.ensures) c.always_accepted.ensures.plain in
     let one = subst (λ (v : ContextValue). IsOnlyInstance (kept_theory c.args.acc.now) (statement c.index-of.result.now) (names c.in_ok-scope.scope) v (input_trees c.args.inputs.now) (option_map instance c.in_ok-found.found)) closed
     (subst (λ (s : Parts). IsOnlyInstance (theory s) (statement c.index-of.result.now) (names c.in_ok-scope.scope) (context_value (record { cat = None; entries = c.new.result })) (input_trees c.args.inputs.now)
     (option_map instance c.in_ok-found.found)) c.system-system.ensures c.in_ok-found.ensures) in

@@ -1,6 +1,6 @@
 use Rattle.std.proofs.Common.{◌≡◌, ◌++◌, map, drop}
 use Rattle.core_proofs.specs.Value.{given_trees}
-use Rattle.theorem_runner.specs.View.{input_tree}
+use Rattle.derivation_check.specs.Inputs.{input_tree}
 use Rattle.theorem_runner.proofs.running.given_trees.Given as goal
 
 abbrev pub invariant-loop-input : goal.invariant-loop-input
