@@ -11,8 +11,7 @@ use Rattle.scheme_terms.specs.declared.scheme.MetaDecl.{MetaDecl}
 use Rattle.rule_schemes.specs.Reading.{Token, Variable, slot_variables, ReadsTerm, ReadsItems, all_read, terminal, binder, slot}
 use Rattle.rule_schemes.specs.Said.{Way, way, Ways, then_way, IsBefore, way_of_term, item_lengths, ways_of_items}
 use Rattle.ordered_readings.specs.FirstTwo.{IsOneOf, IsListed, ComesAfterTwo}
-use Rattle.ordered_readings.specs.AnswerView.{with_first, behind}
-use Rattle.ordered_readings.specs.PlaceView.{slot_place}
+use Rattle.ordered_readings.specs.AnswerView.{with_first, slot_place}
 use Rattle.ordered_readings.specs.Cells.{ReadsTermAt, ReadsItemsAt, TakesFirst, TakesFewer}
 use Rattle.ordered_readings.specs.Laws.{SlotLaw, LengthLaw, EnoughLaw}
 use Rattle.ordered_readings.proofs.FirstTwo.{first_same, first_union}
@@ -44,23 +43,23 @@ split_slot sig metas vars own words js ts xs c binds items (slot {c = d} {binds 
     moved sig metas vars own words ts _ _ _ d c bs binds is items cat list rest (begins, other, _, _, t, r, split, refl, refl, refl)
 
 module _ (sig : Signature) (metas : List MetaDecl) (vars own : List Variable) (words : List (List ℕ)) where
-  has_parts : (items : List Item) (p : ℕ) (ts : List Token) (w : Way) (s : SchemeTree) → ReadsItemsAt sig metas vars own words items p ts w s → HasParts s
-  has_parts items p ts w s h = subst HasParts (sym h.3) tt
+  has_parts : (items : List Item) (alt p : ℕ) (ts : List Token) (w : Way) (s : SchemeTree) → ReadsItemsAt sig metas vars own words items alt p ts w s → HasParts s
+  has_parts items alt p ts w s h = subst HasParts (sym h.3) tt
 
-  module _ (c : CatId) (binds : List ℕ) (items : List Item) (p : ℕ) (first rest : List Token) (some : first ≢ []) where
+  module _ (c : CatId) (binds : List ℕ) (items : List Item) (alt p : ℕ) (first rest : List Token) (some : first ≢ []) where
     abbrev InSlot : Way → SchemeTree → Type 0
     InSlot = ReadsTermAt sig metas (slot_variables own binds ++ vars) c.0 first
 
     abbrev After : Way → SchemeTree → Type 0
-    After = ReadsItemsAt sig metas vars own words items p rest
+    After = ReadsItemsAt sig metas vars own words items alt p rest
 
     abbrev Whole : Way → SchemeTree → Type 0
-    Whole w s = ReadsItemsAt sig metas vars own words (Slot c binds ∷ items) p (first ++ rest) w s × TakesFirst (length first) w
+    Whole w s = ReadsItemsAt sig metas vars own words (Slot c binds ∷ items) alt p (first ++ rest) w s × TakesFirst (length first) w
 
     -- a reading of both is one of the whole
     whole : (w : Way) (s : SchemeTree) → ReadsBehind (length first) (length binds) InSlot After w s → Whole w s
     whole w s (v, a, u, b, t, r, e, f) =
-        let place : w ≡ way (3 + p) (length first ∷ item_lengths r.1) (then_way (way_of_term t.0) (ways_of_items r.1)) =
+        let place : w ≡ way alt (length first ∷ item_lengths r.1) (then_way (way_of_term t.0) (ways_of_items r.1)) =
         e ∙ ap (λ x. slot_place (length first) x u) (sym t.1) ∙ ap (slot_place (length first) (way_of_term t.0)) r.2 in
         let value : s ≡ con p (part (length binds) a r.0) = f ∙ ap (with_first (length binds) a) r.3 in (
           (part (length binds) a r.0, slot refl some t.0 r.1, place, value),
@@ -70,18 +69,18 @@ module _ (sig : Signature) (metas : List MetaDecl) (vars own : List Variable) (w
     -- a reading of the whole with that length is one of both
     apart : (begins other : List Token) (a : SchemeTree) (xs : Parts) (w : Way) (s : SchemeTree)
         → (t : ReadsTerm sig metas (slot_variables own binds ++ vars) c.0 begins a) → (r : ReadsItems sig metas vars own words items other xs)
-        → begins ≡ first → other ≡ rest → w ≡ way (3 + p) (length begins ∷ item_lengths r) (then_way (way_of_term t) (ways_of_items r))
+        → begins ≡ first → other ≡ rest → w ≡ way alt (length begins ∷ item_lengths r) (then_way (way_of_term t) (ways_of_items r))
         → s ≡ con p (part (length binds) a xs) → ReadsBehind (length first) (length binds) InSlot After w s
     apart begins other a xs w s t r same behind e f =
-        subst (λ o. ReadsBehind (length first) (length binds) InSlot (ReadsItemsAt sig metas vars own words items p o) w s) behind
-        (subst (λ o. ReadsBehind (length o) (length binds) (ReadsTermAt sig metas (slot_variables own binds ++ vars) c.0 o) (ReadsItemsAt sig metas vars own words items p other) w s) same
-        (way_of_term t, a, way (3 + p) (item_lengths r) (ways_of_items r), con p xs, (t, refl), (xs, r, refl, refl), e, f))
+        subst (λ o. ReadsBehind (length first) (length binds) InSlot (ReadsItemsAt sig metas vars own words items alt p o) w s) behind
+        (subst (λ o. ReadsBehind (length o) (length binds) (ReadsTermAt sig metas (slot_variables own binds ++ vars) c.0 o) (ReadsItemsAt sig metas vars own words items alt p other) w s) same
+        (way_of_term t, a, way alt (item_lengths r) (ways_of_items r), con p xs, (t, refl), (xs, r, refl, refl), e, f))
 
     parted : (w : Way) (s : SchemeTree) → Whole w s → ReadsBehind (length first) (length binds) InSlot After w s
     parted w s ((xs, r, place, value), takes) =
         let (begins, other, a, ys, t, q, split, is, lengths, ways) = split_slot sig metas vars own words (Slot c binds ∷ items) (first ++ rest) xs c binds items r refl in
-        let at : w ≡ way (3 + p) (length begins ∷ item_lengths q) (then_way (way_of_term t) (ways_of_items q)) =
-        place ∙ ap (λ ls. way (3 + p) ls (ways_of_items r)) lengths ∙ ap (way (3 + p) (length begins ∷ item_lengths q)) ways in
+        let at : w ≡ way alt (length begins ∷ item_lengths q) (then_way (way_of_term t) (ways_of_items q)) =
+        place ∙ ap (λ ls. way alt ls (ways_of_items r)) lengths ∙ ap (way alt (length begins ∷ item_lengths q)) ways in
         let long : length begins ≡ length first = subst (TakesFirst (length first)) at takes in
         let same = same_fronts begins first other rest (sym split) long in
         apart begins other a ys w s t q same.0 same.1 at (value ∙ ap (con p) is)
@@ -90,9 +89,9 @@ module _ (sig : Signature) (metas : List MetaDecl) (vars own : List Variable) (w
     slot_same w s = (whole w s, parted w s)
 
 pub slot_law : SlotLaw
-slot_law sig metas vars own words c binds items p first rest xs ys zs some f g h =
-    first_same IsBefore before_transitive _ _ zs (slot_same sig metas vars own words c binds items p first rest some)
-    (first_behind (length first) (length binds) _ _ xs ys zs (has_parts sig metas vars own words items p rest) f g h)
+slot_law sig metas vars own words c binds items alt p first rest xs ys zs some f g h =
+    first_same IsBefore before_transitive _ _ zs (slot_same sig metas vars own words c binds items alt p first rest some)
+    (first_behind (length first) (length binds) _ _ xs ys zs (has_parts sig metas vars own words items alt p rest) f g h)
 
 fewer_same : (n : ℕ) (w : Way) → TakesFewer n w ⊎ TakesFirst n w ↔ TakesFewer (n + 1) w
 fewer_same n (way a [] ws) = (λ h. elim h [ inl k ↦ k | inr k ↦ k ], λ h. inl h)
@@ -105,11 +104,11 @@ fewer_same n (way a (m ∷ ls) ws) = (λ h. elim h [ inl k ↦ omega arith | inr
     ]
 
 pub length_law : LengthLaw
-length_law sig metas vars own words items p n tokens xs ys zs f g h =
+length_law sig metas vars own words items alt p n tokens xs ys zs f g h =
     first_same IsBefore before_transitive _ _ zs both (first_union IsBefore before_transitive _ _ xs ys zs f g h)
   where
     Reads : Way → SchemeTree → Type 0
-    Reads = ReadsItemsAt sig metas vars own words items p tokens
+    Reads = ReadsItemsAt sig metas vars own words items alt p tokens
 
     both : (w : Way) (s : SchemeTree) → (Reads w s × TakesFewer n w) ⊎ (Reads w s × TakesFirst n w) ↔ Reads w s × TakesFewer (n + 1) w
     both w s = (
@@ -141,10 +140,10 @@ fewer_more n m (way a [] ws) h k = k
 fewer_more n m (way a (l ∷ ls) ws) h k = omega arith
 
 pub enough_law : EnoughLaw
-enough_law sig metas vars own words items p n m tokens a b le f = record { have = have; in_order = f.in_order; all = all }
+enough_law sig metas vars own words items alt p n m tokens a b le f = record { have = have; in_order = f.in_order; all = all }
   where
     Reads : Way → SchemeTree → Type 0
-    Reads = ReadsItemsAt sig metas vars own words items p tokens
+    Reads = ReadsItemsAt sig metas vars own words items alt p tokens
 
     first : Reads a.0 a.1 × TakesFewer n a.0
     first = f.have a.0 a.1 (inl refl)
@@ -156,7 +155,7 @@ enough_law sig metas vars own words items p n m tokens a b le f = record { have 
     have k s i = let h = f.have k s i in (h.0, fewer_more n m k le h.1)
 
     before : (c : Way × SchemeTree) → Reads c.0 c.1 × TakesFewer n c.0 → (k : Way) (s : SchemeTree) → Reads k s × TakesFewer m k → (TakesFewer n k → ⊥) → IsBefore c.0 k
-    before c h k s r o = shorter_first (3 + p) n m _ _ _ _ c.0 k h.0.2 r.0.2 h.1 r.1 o
+    before c h k s r o = shorter_first alt n m _ _ _ _ c.0 k h.0.2 r.0.2 h.1 r.1 o
 
     all : (k : Way) (s : SchemeTree) → Reads k s × TakesFewer m k → IsListed IsBefore (a ∷ b ∷ []) k s ⊎ ComesAfterTwo IsBefore (a ∷ b ∷ []) k
     all k s r = elim (fewer_or_not n k) [

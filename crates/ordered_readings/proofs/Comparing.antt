@@ -19,14 +19,14 @@ Compared Before k l = Before k l ⊎ ((k ≡ l) ⊎ Before l k)
 abbrev pub SlotsCompared : List ℕ → Ways → List ℕ → Ways → Type 0
 SlotsCompared ls ws ks vs = ComesBefore ls ks ⊎ (ComesBefore ks ls ⊎ ((ls ≡ ks) × Compared AreBefore ws vs))
 
-first_tells : (w v : Way) (ws vs : Ways) → Compared IsBefore w v → Compared AreBefore ws vs → Compared AreBefore (then_way w ws) (then_way v vs)
+pub first_tells : (w v : Way) (ws vs : Ways) → Compared IsBefore w v → Compared AreBefore ws vs → Compared AreBefore (then_way w ws) (then_way v vs)
 first_tells w v ws vs (inl b) c = inl (inl b)
 first_tells w v ws vs (inr (inl e)) (inl c) = inl (inr (e, c))
 first_tells w v ws vs (inr (inl e)) (inr (inl d)) = inr (inl (ap (λ u. then_way u ws) e ∙ ap (then_way v) d))
 first_tells w v ws vs (inr (inl e)) (inr (inr c)) = inr (inr (inr (sym e, c)))
 first_tells w v ws vs (inr (inr b)) c = inr (inr (inl b))
 
-slots_tell : (a : ℕ) (ls ks : List ℕ) (ws vs : Ways) → SlotsCompared ls ws ks vs → Compared IsBefore (way a ls ws) (way a ks vs)
+pub slots_tell : (a : ℕ) (ls ks : List ℕ) (ws vs : Ways) → SlotsCompared ls ws ks vs → Compared IsBefore (way a ls ws) (way a ks vs)
 slots_tell a ls ks ws vs (inl b) = inl (inr (refl, inl b))
 slots_tell a ls ks ws vs (inr (inl b)) = inr (inr (inr (refl, inl b)))
 slots_tell a ls ks ws vs (inr (inr c)) = go c.1
@@ -36,7 +36,7 @@ slots_tell a ls ks ws vs (inr (inr c)) = go c.1
     go (inr (inl e)) = inr (inl (ap (λ ns. way a ns ws) c.0 ∙ ap (way a ks) e))
     go (inr (inr b)) = inr (inr (inr (refl, inr (sym c.0, b))))
 
-alternative_tells : (a b : ℕ) (ls ks : List ℕ) (ws vs : Ways) → (a ≡ b → SlotsCompared ls ws ks vs) → Compared IsBefore (way a ls ws) (way b ks vs)
+pub alternative_tells : (a b : ℕ) (ls ks : List ℕ) (ws vs : Ways) → (a ≡ b → SlotsCompared ls ws ks vs) → Compared IsBefore (way a ls ws) (way b ks vs)
 alternative_tells a b ls ks ws vs h = go (cases_order a b)
   where
     go : (a ≡ b) ⊎ ((a < b) ⊎ (b < a)) → Compared IsBefore (way a ls ws) (way b ks vs)
@@ -45,7 +45,7 @@ alternative_tells a b ls ks ws vs h = go (cases_order a b)
     go (inr (inr lt)) = inr (inr (inl lt))
 
 -- the length of a slot before the other slots, and its own place before theirs
-length_tells : (m n : ℕ) (w v : Way) (ls ks : List ℕ) (ws vs : Ways) → (m ≡ n → Compared IsBefore w v × SlotsCompared ls ws ks vs)
+pub length_tells : (m n : ℕ) (w v : Way) (ls ks : List ℕ) (ws vs : Ways) → (m ≡ n → Compared IsBefore w v × SlotsCompared ls ws ks vs)
     → SlotsCompared (m ∷ ls) (then_way w ws) (n ∷ ks) (then_way v vs)
 length_tells m n w v ls ks ws vs h = go (cases_order m n)
   where
@@ -59,7 +59,7 @@ length_tells m n w v ls ks ws vs h = go (cases_order m n)
     go (inr (inl lt)) = inl (inl lt)
     go (inr (inr lt)) = inr (inl (inl lt))
 
-no_slots : SlotsCompared [] no_ways [] no_ways
+pub no_slots : SlotsCompared [] no_ways [] no_ways
 no_slots = inr (inr (refl, inr (inl refl)))
 
 pub comma_is_no_bracket : (us vs : List Token) → punctuation 44 ∷ us ≡ punctuation 93 ∷ vs → ⊥
@@ -138,7 +138,7 @@ module _ {sig : Signature} {metas : List MetaDecl} where
         let others : rest ≡ other = cc in
         (terms_compare t u same.0, brackets_compare r q others)))
 
-    items_compare : {vars us own owns : List Variable} {words others : List (List ℕ)} {items jtems : List Item} {ts rs : List Token} {xs ys : Parts}
+    pub items_compare : {vars us own owns : List Variable} {words others : List (List ℕ)} {items jtems : List Item} {ts rs : List Token} {xs ys : Parts}
         → (r : ReadsItems sig metas vars own words items ts xs) (q : ReadsItems sig metas us owns others jtems rs ys) → items ≡ jtems → ts ≡ rs
         → SlotsCompared (item_lengths r) (ways_of_items r) (item_lengths q) (ways_of_items q)
     items_compare all_read all_read d e = no_slots

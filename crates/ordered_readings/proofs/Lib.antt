@@ -6,3 +6,5 @@ pub mod PairLemmas
 pub mod CellLemmas
 pub mod Comparing
 pub mod SamePlace
+pub mod Behind
+pub mod NodeEquations

@@ -3,10 +3,9 @@ use Rattle.std.proofs.Common.{◌≡◌, ◌⊎◌, ℕ, List, [], ◌∷◌, �
 use Rattle.std.proofs.lemmas.List.{append-nil}
 use Rattle.rule_schemes.specs.Said.{Way, way, then_way, ComesBefore, IsBefore, AreBefore}
 use Rattle.scheme_terms.specs.SchemeTree.{SchemeTree, meta, known, local, con}
-use Rattle.ordered_readings.specs.AnswerView.{with_first, behind}
+use Rattle.ordered_readings.specs.AnswerView.{with_first, behind, slot_place}
 use Rattle.ordered_readings.proofs.FirstTwo.{first_product}
 use Rattle.ordered_readings.specs.FirstTwo.{pairs, AreInOrder, AreFirst, AreFirstOf}
-use Rattle.ordered_readings.specs.PlaceView.{slot_place}
 use Rattle.ordered_readings.proofs.Adding.{already}
 use Rattle.ordered_readings.proofs.Transitive.{before_transitive}
 

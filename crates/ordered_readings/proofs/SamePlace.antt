@@ -1,5 +1,5 @@
 -- Two readings of the same tokens at the same place say the same.
-use Rattle.std.proofs.Common.{◌≡◌, ◌≢◌, ℕ, zero, suc, ◌+◌, List, [], ◌∷◌, ◌++◌, length, map, inl, inr, refl, ap, ◌∙◌, sym, subst, arith, Some, slice_get}
+use Rattle.std.proofs.Common.{◌≡◌, ◌≢◌, ◌⊎◌, ℕ, zero, suc, ◌+◌, List, [], ◌∷◌, ◌++◌, length, map, inl, inr, refl, ap, ◌∙◌, sym, subst, arith, Some, slice_get}
 use Rattle.std.specs.List.{AllByRecursion}
 use Rattle.std.proofs.lemmas.List.{append_cancel_right}
 use Rattle.binding_terms.specs.Signature.{Signature, binders}
@@ -12,16 +12,16 @@ use Rattle.scheme_terms.specs.declared.scheme.MetaDecl.{MetaDecl}
 use Rattle.rule_schemes.specs.Reading.{Token, word, punctuation, Variable, Means, counted, variables_of, slot_variables, ReadsTerm, group, metavariable, variable, production, ReadsBrackets, no_brackets, brackets, ReadsArguments, one_more, last_one, ReadsItems, all_read, terminal, binder, slot}
 use Rattle.rule_schemes.specs.Said.{IsBefore, Way, way, Ways, way_of_term, bracket_lengths, ways_of_brackets, argument_lengths, ways_of_arguments, item_lengths, ways_of_items}
 use Rattle.ordered_readings.specs.Names.{NamesApart}
-use Rattle.ordered_readings.specs.Laws.{OrderLaw}
-use Rattle.ordered_readings.proofs.Comparing.{comma_is_no_bracket, terms_compare}
+use Rattle.ordered_readings.specs.Laws.{OrderLaw, RowLaw}
+use Rattle.ordered_readings.proofs.Comparing.{Compared, slots_tell, comma_is_no_bracket, terms_compare, items_compare}
 
-abbrev alternative : Way → ℕ
+abbrev pub alternative : Way → ℕ
 alternative (way a ls ws) = a
 
-abbrev lengths : Way → List ℕ
+abbrev pub lengths : Way → List ℕ
 lengths (way a ls ws) = ls
 
-abbrev inner : Way → Ways
+abbrev pub inner : Way → Ways
 inner (way a ls ws) = ws
 
 no_other_name : (m : MetaDecl) (ms : List MetaDecl) (n : ℕ) (d : MetaDecl) → AllByRecursion (λ x. m.name ≢ x.name) ms → slice_get ms n ≡ Some d → m.name ≡ d.name → ⊥
@@ -57,7 +57,7 @@ no_comma_here us vs first begins ts rs f g e h =
 
 module _ {sig : Signature} {metas : List MetaDecl} where
   -- where the slots are as long, the binders write the same words
-  same_words : {vars us own owns : List Variable} {words others : List (List ℕ)} {items jtems : List Item} {ts rs : List Token} {xs ys : Parts}
+  pub same_words : {vars us own owns : List Variable} {words others : List (List ℕ)} {items jtems : List Item} {ts rs : List Token} {xs ys : Parts}
       → (r : ReadsItems sig metas vars own words items ts xs) (q : ReadsItems sig metas us owns others jtems rs ys) → items ≡ jtems → ts ≡ rs
       → item_lengths r ≡ item_lengths q → words ≡ others
   same_words all_read all_read d e l = refl
@@ -220,3 +220,19 @@ order_law sig metas vars cat tokens v w s t apart r q = elim (terms_compare r.0 
     | inr b ↦ inr (inr (subst (λ x. IsBefore x v) q.1 (subst (IsBefore (way_of_term q.0)) r.1 b)))
   ]
 ]
+
+pub row_law : RowLaw
+row_law sig metas vars own words items a p tokens v w s t apart (xs, r, e, f) (ys, q, g, h) =
+    go (slots_tell a (item_lengths r) (item_lengths q) (ways_of_items r) (ways_of_items q) (items_compare r q refl refl))
+  where
+    one : Way
+    one = way a (item_lengths r) (ways_of_items r)
+
+    other : Way
+    other = way a (item_lengths q) (ways_of_items q)
+
+    go : Compared IsBefore (way a (item_lengths r) (ways_of_items r)) (way a (item_lengths q) (ways_of_items q)) → IsBefore v w ⊎ (((v ≡ w) × (s ≡ t)) ⊎ IsBefore w v)
+    go (inl b) = inl (subst (λ x. IsBefore x w) (sym e) (subst (IsBefore one) (sym g) b))
+    go (inr (inl same)) =
+        inr (inl (e ∙ same ∙ sym g, f ∙ ap (con p) (same_items apart r q refl refl refl refl (ap lengths same) (ap inner same)) ∙ sym h))
+    go (inr (inr b)) = inr (inr (subst (λ x. IsBefore x v) (sym g) (subst (IsBefore other) (sym e) b)))

@@ -1,35 +1,61 @@
-// The first two readings of something, each with its place.
-ghost use Rattle.std.specs.Prelude.{◌≡◌, ◌↔◌, IsTrue, IfOk, [], ◌∷◌, ◌++◌, map};
+// The first two readings of something.
+ghost use Rattle.std.specs.Prelude.{◌≡◌, ◌↔◌, IsTrue, IfOk, [], ◌∷◌, ◌++◌, length};
 ghost use Rattle.rule_schemes.specs.Said.{IsBefore};
-ghost use Rattle.scheme_terms.specs.View.{scheme};
-ghost use Rattle.ordered_readings.specs.AnswerView.{answer, answers};
+ghost use Rattle.ordered_readings.specs.NodeView.{reading};
+ghost use Rattle.ordered_readings.specs.AnswerView.{answers};
 ghost use Rattle.ordered_readings.specs.FirstTwo.{AreInOrder, AreComparable, AreFirstOf};
 
-use crate::places::{Place, is_before};
-use scheme_terms::{Scheme, same_scheme};
-
-/// A reading: its place in the reading order and its scheme.
-#[derive(Drop)]
-pub struct Answer {
-    pub place: Place,
-    pub scheme: Scheme,
-}
+use crate::node::{Node, is_before, same_scheme, share};
+use binding_terms::NoMemory;
 
 /// The first two of several readings, or fewer where there are fewer.
 #[derive(Drop)]
 pub enum Answers {
     Nothing,
-    One(Answer),
-    Two(Answer, Answer),
+    One(Node),
+    Two(Node, Node),
+}
+
+/// The same answers again, which share their parts with the first.
+pub fn share_answers(found: &Answers) -> Result<Answers, NoMemory>
+    ensures { IfOk result (λ new. answers new ≡ answers found.now) }
+{
+    match found {
+        Answers::Nothing => Ok(Answers::Nothing),
+        Answers::One(a) => Ok(Answers::One(share(a)?)),
+        Answers::Two(a, b) => Ok(Answers::Two(share(a)?, share(b)?)),
+    }
+}
+
+/// Whether there are two.
+pub fn is_full(found: &Answers) -> bool
+    ensures { IsTrue result ↔ (length (answers found.now) ≡ 2) }
+{
+    match found {
+        Answers::Nothing => false,
+        Answers::One(_) => false,
+        Answers::Two(_, _) => true,
+    }
+}
+
+/// Whether there are none.
+pub fn is_none(found: &Answers) -> bool
+    ensures { IsTrue result ↔ (answers found.now ≡ []) }
+{
+    match found {
+        Answers::Nothing => true,
+        Answers::One(_) => false,
+        Answers::Two(_, _) => false,
+    }
 }
 
 /// The one reading and another.
-fn after_one(a: Answer, new: Answer) -> Answers
-    ensures { AreComparable IsBefore (answer new ∷ answer a ∷ [])
-        → AreFirstOf IsBefore (answer new ∷ answer a ∷ []) (answers result) }
+fn after_one(a: Node, new: Node) -> Answers
+    ensures { AreComparable IsBefore (reading new ∷ reading a ∷ [])
+        → AreFirstOf IsBefore (reading new ∷ reading a ∷ []) (answers result) }
 {
-    let sooner = is_before(&new.place, &a.place);
-    if same_scheme(&new.scheme, &a.scheme) {
+    let sooner = is_before(&new, &a);
+    if same_scheme(&new, &a) {
         if sooner {
             return Answers::One(new);
         }
@@ -42,12 +68,12 @@ fn after_one(a: Answer, new: Answer) -> Answers
 }
 
 /// Two readings in order and another.
-fn after_two(a: Answer, b: Answer, new: Answer) -> Answers
-    ensures { AreInOrder IsBefore (answer a ∷ answer b ∷ []) → AreComparable IsBefore (answer new ∷ answer a ∷ answer b ∷ [])
-        → AreFirstOf IsBefore (answer new ∷ answer a ∷ answer b ∷ []) (answers result) }
+fn after_two(a: Node, b: Node, new: Node) -> Answers
+    ensures { AreInOrder IsBefore (reading a ∷ reading b ∷ []) → AreComparable IsBefore (reading new ∷ reading a ∷ reading b ∷ [])
+        → AreFirstOf IsBefore (reading new ∷ reading a ∷ reading b ∷ []) (answers result) }
 {
-    let sooner = is_before(&new.place, &a.place);
-    if same_scheme(&new.scheme, &a.scheme) {
+    let sooner = is_before(&new, &a);
+    if same_scheme(&new, &a) {
         if sooner {
             return Answers::Two(new, b);
         }
@@ -56,16 +82,16 @@ fn after_two(a: Answer, b: Answer, new: Answer) -> Answers
     if sooner {
         return Answers::Two(new, a);
     }
-    if is_before(&new.place, &b.place) {
+    if is_before(&new, &b) {
         return Answers::Two(a, new);
     }
     Answers::Two(a, b)
 }
 
 /// The first two with one more.
-pub fn added(found: Answers, new: Answer) -> Answers
-    ensures { AreInOrder IsBefore (answers found) → AreComparable IsBefore (answer new ∷ answers found)
-        → AreFirstOf IsBefore (answer new ∷ answers found) (answers result) }
+pub fn added(found: Answers, new: Node) -> Answers
+    ensures { AreInOrder IsBefore (answers found) → AreComparable IsBefore (reading new ∷ answers found)
+        → AreFirstOf IsBefore (reading new ∷ answers found) (answers result) }
 {
     match found {
         Answers::Nothing => Answers::One(new),

@@ -1,5 +1,5 @@
 // Laws of first readings.
-ghost use Rattle.ordered_readings.specs.Laws.{SlotLaw, LengthLaw, EnoughLaw, OrderLaw};
+ghost use Rattle.ordered_readings.specs.Laws.{SlotLaw, LengthLaw, EnoughLaw, OrderLaw, RowLaw};
 
 /// The first two readings of a slot and what stands behind it are the first two of the pairs.
 pub fn first_of_slot()
@@ -19,4 +19,9 @@ pub fn two_are_enough()
 /// Of two readings of a form one is before the other, or both are at one place and say the same.
 pub fn readings_are_ordered()
     ensures { OrderLaw }
+{}
+
+/// Of two readings of a row of items one is before the other, or both are at one place and say the same.
+pub fn rows_are_ordered()
+    ensures { RowLaw }
 {}

@@ -3,10 +3,14 @@
 
 mod answers;
 mod laws;
+mod node;
 mod pairing;
-mod places;
+mod schemes;
 
-pub use answers::{Answer, Answers, added, joined};
-pub use laws::{first_of_lengths, first_of_slot, readings_are_ordered, two_are_enough};
+pub use answers::{Answers, added, is_full, is_none, joined, share_answers};
+pub use laws::{
+    first_of_lengths, first_of_slot, readings_are_ordered, rows_are_ordered, two_are_enough,
+};
+pub use node::{Head, Node, Row, SlotCell, is_before, same_scheme, share, share_row, slot_before};
 pub use pairing::product;
-pub use places::{Place, are_before, are_same, is_before};
+pub use schemes::{parts_of, scheme_of};

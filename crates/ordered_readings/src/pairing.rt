@@ -2,86 +2,32 @@
 ghost use Rattle.std.specs.Prelude.{◌≡◌, IfOk, [], ◌∷◌, map};
 ghost use Rattle.rule_schemes.specs.Said.{Way, IsBefore};
 ghost use Rattle.scheme_terms.specs.SchemeTree.{SchemeTree};
-ghost use Rattle.scheme_terms.specs.View.{scheme, scheme_part};
-ghost use Rattle.ordered_readings.specs.AnswerView.{answer, answers, with_first, behind};
-ghost use Rattle.ordered_readings.specs.PlaceView.{place, slot_place};
+ghost use Rattle.ordered_readings.specs.NodeView.{reading};
+ghost use Rattle.ordered_readings.specs.AnswerView.{answers, behind, IsRow, AreRows};
 ghost use Rattle.ordered_readings.specs.FirstTwo.{AreInOrder, AreComparable, AreFirstOf, IsOneOf, pairs};
 
-use crate::answers::{Answer, Answers, joined};
-use crate::places::{Place, copy_place, slot_before};
+use crate::answers::{Answers, joined};
+use crate::node::{Node, slot_before};
 use binding_terms::NoMemory;
-use scheme_terms::{SArg, Scheme, copy_scheme, copy_values};
-use sqlite_items::Items;
 use std::alloc::Global;
-
-/// The parts after one more.
-fn parts_behind(
-    alloc: Global,
-    binds: usize,
-    first: &Scheme,
-    parts: &[SArg],
-) -> Result<Items<SArg>, NoMemory>
-    ensures { IfOk result (λ new. map scheme_part new ≡ (binds, scheme first.now) ∷ map scheme_part parts.now) }
-{
-    let mut all = Items::new(alloc);
-    let body = copy_scheme(alloc, first)?;
-    all.push(SArg { binds, body })?;
-    for part in parts {
-        let body = copy_scheme(alloc, &part.body)?;
-        all.push(SArg {
-            binds: part.binds,
-            body,
-        })?;
-    }
-    Ok(all)
-}
-
-/// The values after one more.
-fn values_behind(alloc: Global, first: &Scheme, args: &[Scheme]) -> Result<Items<Scheme>, NoMemory>
-    ensures { IfOk result (λ new. map scheme new ≡ scheme first.now ∷ map scheme args.now) }
-{
-    let mut all = Items::new(alloc);
-    all.push(copy_scheme(alloc, first)?)?;
-    all.append(copy_values(alloc, args)?)?;
-    Ok(all)
-}
-
-/// A scheme with one more part or value before the others.
-fn scheme_behind(
-    alloc: Global,
-    binds: usize,
-    first: &Scheme,
-    rest: &Scheme,
-) -> Result<Scheme, NoMemory>
-    ensures { IfOk result (λ new. scheme new ≡ with_first binds (scheme first.now) (scheme rest.now)) }
-{
-    match rest {
-        Scheme::Con(p, parts) => Ok(Scheme::Con(
-            *p,
-            parts_behind(alloc, binds, first, parts.as_slice())?,
-        )),
-        Scheme::Meta(m, args) => Ok(Scheme::Meta(
-            *m,
-            values_behind(alloc, first, args.as_slice())?,
-        )),
-        Scheme::Known(k) => Ok(Scheme::Known(*k)),
-        Scheme::Local(i) => Ok(Scheme::Local(*i)),
-    }
-}
 
 /// The reading of a slot of that length, which binds so many, before that of what stands behind it.
 fn paired(
     alloc: Global,
     length: usize,
     binds: usize,
-    first: &Answer,
-    rest: &Answer,
-) -> Result<Answer, NoMemory>
-    ensures { IfOk result (λ new. answer new ≡ behind length binds (answer first.now) (answer rest.now)) }
+    first: &Node,
+    rest: &Node,
+) -> Result<Node, NoMemory>
+    ensures { IfOk result (λ new. IsRow (reading rest.now).0 → reading new ≡ behind length binds (reading first.now) (reading rest.now)) }
 {
-    let place = slot_before(alloc, length, &first.place, &rest.place)?;
-    let scheme = scheme_behind(alloc, binds, &first.scheme, &rest.scheme)?;
-    Ok(Answer { place, scheme })
+    match rest {
+        Node::Group(inside) => Ok(Node::Group(inside.clone()?)),
+        Node::Made(alternative, head, slots) => {
+            let slots = slot_before(alloc, length, binds, first, slots)?;
+            Ok(Node::Made(*alternative, *head, slots))
+        }
+    }
 }
 
 /// The one reading of a slot before each of the others.
@@ -89,10 +35,10 @@ fn before_each(
     alloc: Global,
     length: usize,
     binds: usize,
-    first: &Answer,
+    first: &Node,
     rests: &Answers,
 ) -> Result<Answers, NoMemory>
-    ensures { IfOk result (λ new. answers new ≡ map (behind length binds (answer first.now)) (answers rests.now)) }
+    ensures { IfOk result (λ new. AreRows (answers rests.now) → answers new ≡ map (behind length binds (reading first.now)) (answers rests.now)) }
 {
     match rests {
         Answers::Nothing => Ok(Answers::Nothing),
@@ -114,7 +60,8 @@ pub fn product(
     rests: &Answers,
 ) -> Result<Answers, NoMemory>
     ensures { IfOk result
-        (λ new. ((d : Way × SchemeTree) → IsOneOf d (answers firsts.now) → AreInOrder IsBefore (map (behind length binds d) (answers rests.now)))
+        (λ new. AreRows (answers rests.now)
+        → ((d : Way × SchemeTree) → IsOneOf d (answers firsts.now) → AreInOrder IsBefore (map (behind length binds d) (answers rests.now)))
         → AreComparable IsBefore (pairs (behind length binds) (answers firsts.now) (answers rests.now))
         → AreFirstOf IsBefore (pairs (behind length binds) (answers firsts.now) (answers rests.now)) (answers new)) }
 {

@@ -1,25 +1,25 @@
 use Rattle.std.proofs.Common.{sym, ◌∙◌, true≢false}
 use Rattle.rule_schemes.specs.Said.{IsBefore}
-use Rattle.ordered_readings.specs.AnswerView.{answer}
+use Rattle.ordered_readings.specs.NodeView.{reading}
 use Rattle.ordered_readings.proofs.Adding.{one_sooner, one_kept, one_first, one_second}
 use Rattle.ordered_readings.proofs.Transitive.{before_transitive}
 use Rattle.ordered_readings.proofs.answers.after_one.Goals as goal
 
 pub returns-then-sooner : goal.returns-then-sooner
 returns-then-sooner c = λ h.
-    one_sooner IsBefore before_transitive (answer c.args.new) (answer c.args.a) h (c.same_scheme.ensures.0 c.if-same_scheme.true) (c.is_before-sooner.ensures.0 c.if-sooner.true)
+    one_sooner IsBefore before_transitive (reading c.args.new) (reading c.args.a) h (c.same_scheme.ensures.0 c.if-same_scheme.true) (c.is_before-sooner.ensures.0 c.if-sooner.true)
 
 pub returns-then-same_scheme : goal.returns-then-same_scheme
 returns-then-same_scheme c = λ h.
-    one_kept IsBefore before_transitive (answer c.args.new) (answer c.args.a) h (c.same_scheme.ensures.0 c.if-same_scheme.true)
+    one_kept IsBefore before_transitive (reading c.args.new) (reading c.args.a) h (c.same_scheme.ensures.0 c.if-same_scheme.true)
     (λ b. true≢false (sym (c.is_before-sooner.ensures.1 b) ∙ c.if-sooner.false))
 
 pub returns-then-sooner-2 : goal.returns-then-sooner-2
 returns-then-sooner-2 c = λ h.
-    one_first IsBefore before_transitive (answer c.args.new) (answer c.args.a) h (λ e. true≢false (sym (c.same_scheme.ensures.1 e) ∙ c.if-same_scheme.false))
+    one_first IsBefore before_transitive (reading c.args.new) (reading c.args.a) h (λ e. true≢false (sym (c.same_scheme.ensures.1 e) ∙ c.if-same_scheme.false))
     (c.is_before-sooner.ensures.0 c.if-sooner-2.true)
 
 pub returns : goal.returns
 returns c = λ h.
-    one_second IsBefore before_transitive (answer c.args.new) (answer c.args.a) h (λ e. true≢false (sym (c.same_scheme.ensures.1 e) ∙ c.if-same_scheme.false))
+    one_second IsBefore before_transitive (reading c.args.new) (reading c.args.a) h (λ e. true≢false (sym (c.same_scheme.ensures.1 e) ∙ c.if-same_scheme.false))
     (λ b. true≢false (sym (c.is_before-sooner.ensures.1 b) ∙ c.if-sooner-2.false))

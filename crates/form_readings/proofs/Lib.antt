@@ -1,0 +1,3 @@
+pub mod ContextOrder
+pub mod FormOrder
+pub mod TreeLemmas
