@@ -12,7 +12,7 @@ use Rattle.scheme_terms.specs.SchemeScope.{IsSchemeContext}
 use Rattle.scheme_terms.specs.declared.scheme.Root.{Root}
 use Rattle.scheme_terms.specs.declared.scheme.Root.TheVariants.{Closed, Empty, Whole}
 use Rattle.rule_schemes.specs.Rules.{JudgmentScheme, Rule, Theory, JudgmentFits, IsRootOf, IsBareName, HasForms, RuleFits, HasGoodConclusion, MayStand, IsSystemSoFar, IsSystem, assumed_by, assumed, rule_names}
-use Rattle.rule_schemes.specs.Plain.{IsPlainSignature, HasPlainNames, IsPlainTheory, IsPlainSystem}
+use Rattle.rule_schemes.specs.Plain.{HasNoContextCategory, IsPlainSignature, IsPlainTheory, IsSystemWithoutContexts, IsPlainSystem}
 use Rattle.rule_schemes.specs.Refused.{IsFirstMisplaced, with_rule, AssumeAlike}
 use Rattle.binding_terms.proofs.Lists.{all_found, all_push, all_weaker}
 
@@ -27,10 +27,14 @@ no_context [] c all h = h
 no_context (cat ∷ cats) zero all h = absurd (true≢false (sym h ∙ all.0))
 no_context (cat ∷ cats) (suc c) all h = no_context cats c all.1 h
 
+none_assumed : (sig : Signature) (Rest : CatId → Type 0) (ctx : Option CatId) → HasNoContextCategory sig
+    → MatchOption ctx (Unit {0}) (λ c. IsContext sig c.0 × Rest c) → ctx ≡ None
+none_assumed sig Rest None none h = refl
+none_assumed sig Rest (Some c) none h = absurd (no_context sig.cats c.0 none h.0)
+
 pub no_context_assumed : (sig : Signature) (Rest : CatId → Type 0) (ctx : Option CatId) → IsPlainSignature sig
     → MatchOption ctx (Unit {0}) (λ c. IsContext sig c.0 × Rest c) → ctx ≡ None
-no_context_assumed sig Rest None plain h = refl
-no_context_assumed sig Rest (Some c) plain h = absurd (no_context sig.cats c.0 plain.no_context h.0)
+no_context_assumed sig Rest ctx plain = none_assumed sig Rest ctx plain.no_context
 
 -- what a form of a judgment without a context has
 pub record IsClosedForm (context : SchemeContext) : Type 0 where
@@ -42,11 +46,11 @@ is_closed Closed h = refl
 is_closed (Empty c) h = absurd h
 is_closed (Whole c) h = absurd h
 
-pub closed_form : (th : Theory) (r : Rule) → IsPlainSignature th.sig → AllByRecursion (JudgmentFits th.sig) th.judgments → HasForms th r
+pub closed_form : (th : Theory) (r : Rule) → HasNoContextCategory th.sig → AllByRecursion (JudgmentFits th.sig) th.judgments → HasForms th r
     → IsClosedForm r.conclusion.context
-closed_form th r plain fit forms =
+closed_form th r no_contexts fit forms =
     let form = all_found th.judgments r.conclusion.judgment fit forms.conclusion in
-    let none : form.0.ctx ≡ None = no_context_assumed th.sig (λ c. count_by (λ slot. slot.cat == c.0) (slots form.0.items) ≡ 1) form.0.ctx plain form.1.assumed in
+    let none : form.0.ctx ≡ None = none_assumed th.sig (λ c. count_by (λ slot. slot.cat == c.0) (slots form.0.items) ≡ 1) form.0.ctx no_contexts form.1.assumed in
     let root : r.conclusion.context.root ≡ Closed =
     is_closed r.conclusion.context.root (subst (λ (ctx : Option CatId). IsRootOf ctx r.conclusion.context.root) none form.2.0) in
     record {
@@ -110,9 +114,9 @@ fits_with th r s fits =
     }
 
 -- a system stays one with a rule more
-pub IsPlainSystem-with_rule : (th : Theory) (r : Rule) → IsPlainSystem th → RuleFits th r → HasPlainNames r → IsPlainSystem (with_rule th r)
-IsPlainSystem-with_rule th r system fits plain =
-    let closed = closed_form th r system.plain.sig system.so_far.judgments fits.forms in
+pub IsSystemWithoutContexts-with_rule : (th : Theory) (r : Rule) → IsSystemWithoutContexts th → RuleFits th r → IsSystemWithoutContexts (with_rule th r)
+IsSystemWithoutContexts-with_rule th r system fits =
+    let closed = closed_form th r system.no_context system.so_far.judgments fits.forms in
     record {
       so_far = record {
         sig = system.so_far.sig;
@@ -120,7 +124,7 @@ IsPlainSystem-with_rule th r system fits plain =
         rules = all_push (RuleFits (with_rule th r)) th.rules r (all_weaker (fits_with th r) th.rules system.so_far.rules) (fits_with th r r fits);
         one_assumption = subst AreDifferent (sym (assumed_with th.rules r (closed_assumes_nothing r closed))) system.so_far.one_assumption;
       };
-      plain = record { sig = system.plain.sig; rules = all_push HasPlainNames th.rules r system.plain.rules plain };
+      no_context = system.no_context;
     }
 
 -- a system without contexts is whole
@@ -129,6 +133,6 @@ IsPlainSystem-whole th system =
     record {
       so_far = system.so_far;
       closed_ok = all_weaker
-          (λ r fits. closed_placed th r.conclusion.context.root r.premises (closed_form th r system.plain.sig system.so_far.judgments fits.forms).root)
+          (λ r fits. closed_placed th r.conclusion.context.root r.premises (closed_form th r system.plain.sig.no_context system.so_far.judgments fits.forms).root)
           th.rules system.so_far.rules;
     }

@@ -4,8 +4,12 @@ use Rattle.std.specs.List.{AllByRecursion}
 use Rattle.binding_terms.specs.Signature.{Signature, slots}
 use Rattle.rule_schemes.specs.Rules.{Rule, Theory, IsSystemSoFar}
 
+-- no category is one of contexts
+abbrev pub HasNoContextCategory : Signature → Type 0
+HasNoContextCategory sig = AllByRecursion (λ cat. cat.context ≡ false) sig.cats
+
 pub record IsPlainSignature (sig : Signature) : Type 0 where
-  pub no_context : AllByRecursion (λ cat. cat.context ≡ false) sig.cats
+  pub no_context : HasNoContextCategory sig
   pub no_binding : AllByRecursion (λ prod. AllByRecursion (λ slot. slot.binds ≡ []) (slots prod.items)) sig.prods
 
 -- no metavariable of the rule has parameters
@@ -16,7 +20,12 @@ pub record IsPlainTheory (th : Theory) : Type 0 where
   pub sig : IsPlainSignature th.sig
   pub rules : AllByRecursion HasPlainNames th.rules
 
--- what holds of every value of the type of systems
+-- what holds of every value of the type of systems: so far it has no contexts
+pub record IsSystemWithoutContexts (th : Theory) : Type 0 where
+  pub so_far : IsSystemSoFar th
+  pub no_context : HasNoContextCategory th.sig
+
+-- a system in which nothing binds either
 pub record IsPlainSystem (th : Theory) : Type 0 where
   pub so_far : IsSystemSoFar th
   pub plain : IsPlainTheory th

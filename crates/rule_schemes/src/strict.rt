@@ -9,7 +9,8 @@ ghost use Rattle.rule_schemes.specs.Refused.{IsFirstUnstrict, AllStrict};
 use crate::rule::{JScheme, RuleScheme};
 use scheme_terms::{MetaId, Root, SEntry, Scheme, strict_in};
 
-fn strict_in_any(m: MetaId, schemes: &[Scheme]) -> bool
+/// Whether the metavariable has a strict occurrence in one of the schemes.
+pub fn strict_in_any(m: MetaId, schemes: &[Scheme]) -> bool
     ensures { IsTrue result ↔ AnyByRecursion (StrictIn m.0) (map scheme schemes.now) }
 {
     for s in schemes {
@@ -20,7 +21,8 @@ fn strict_in_any(m: MetaId, schemes: &[Scheme]) -> bool
     false
 }
 
-fn strict_in_entries(m: MetaId, entries: &[SEntry]) -> bool
+/// Whether it has one in an argument of one of the entries.
+pub fn strict_in_entries(m: MetaId, entries: &[SEntry]) -> bool
     ensures { IsTrue result ↔ StrictInEntries m.0 (map scheme_entry entries.now) }
 {
     for entry in entries {
@@ -31,13 +33,14 @@ fn strict_in_entries(m: MetaId, entries: &[SEntry]) -> bool
     false
 }
 
-fn strict_in_judgment(m: MetaId, j: &JScheme) -> bool
+/// Whether it has one in the explicit entries of the judgment or in its arguments.
+pub fn strict_in_judgment(m: MetaId, j: &JScheme) -> bool
     ensures { IsTrue result ↔ StrictInJudgment m.0 (judgment_scheme j.now) }
 {
     strict_in_entries(m, j.ctx.entries.as_slice()) || strict_in_any(m, j.args.as_slice())
 }
 
-fn strict_in_judgments(m: MetaId, js: &[JScheme]) -> bool
+pub(crate) fn strict_in_judgments(m: MetaId, js: &[JScheme]) -> bool
     ensures { IsTrue result ↔ AnyByRecursion (StrictInJudgment m.0) (map judgment_scheme js.now) }
 {
     for j in js {
