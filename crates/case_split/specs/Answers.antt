@@ -12,8 +12,8 @@ use Rattle.rule_schemes.specs.Placed.{applied_judgment, locals_of}
 use Rattle.rule_schemes.specs.View.{judgment_scheme}
 use Rattle.pattern_unify.specs.Equations.{SchemeEquation}
 use Rattle.pattern_unify.specs.Answers.{IsOutside}
-use Rattle.pattern_unify.specs.CommonInstance.{HaveCommonInstance, IsCommonInstance}
-use Rattle.pattern_unify.specs.MostGeneral.{IsMostGeneral, IsThroughOnce}
+use Rattle.pattern_unify.specs.CommonInstance.{HaveCommonInstance}
+use Rattle.pattern_unify.specs.MostGeneral.{IsMostGeneral}
 use Rattle.pattern_unify.specs.Run.{IsWithinFragment}
 use Rattle.case_split.specs.declared.choice.Place.{Place}
 use Rattle.case_split.specs.declared.choice.Outcome.{Outcome}
@@ -43,12 +43,11 @@ pub record IsSyntaxSubject (th : Theory) (scope : Names) (ctx : SchemeContext) (
   pub root : StandsWith scope.root ctx.root
   pub term : IsScheme th.sig scope (locals_of th.sig ctx.entries) cat subject
 
--- A refinement: a most general common instance of the system over the same root, of which no common instance is left out, and the premises under it.
+-- A refinement: a most general common instance of the system over the same root, and the premises under it.
 pub record IsRefinement (sig : Signature) (names : Names) (eqs : List SchemeEquation) (premises : List JudgmentScheme)
     (refine : Substitution) (refined : List JudgmentScheme) : Type 0 where
   pub root : refine.into.root ≡ names.root
   pub most_general : IsMostGeneral sig names eqs refine
-  pub every : (other : Substitution) → IsCommonInstance sig names eqs other → IsThroughOnce sig refine other
   pub premises_are : map (applied_judgment refine) premises ≡ refined
 
 -- impossible stands exactly where there is no common instance; where there is one, the refinement is most general

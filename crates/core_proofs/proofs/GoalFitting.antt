@@ -4,12 +4,12 @@ use Rattle.std.proofs.lemmas.Bool.{cases_lt}
 use Rattle.std.proofs.lemmas.Bool.Decides.{nat_tests}
 use Rattle.std.proofs.lemmas.Option.{slice_get_within, get_or_from_slice_get}
 use Rattle.std.proofs.lemmas.List.{drop_more, map-append}
-use Rattle.std.specs.List.{AllByRecursion}
+use Rattle.std.specs.List.{AllByRecursion, AllZip}
 use Rattle.binding_terms.specs.Numbered.{AnyByRecursion, AllNumbered}
 use Rattle.scheme_terms.specs.SchemeTree.{SchemeTree, meta, local, no_values, values, filled, StrictIn}
 use Rattle.scheme_terms.specs.Forms.{Names, Substitution}
 use Rattle.scheme_terms.specs.SchemeScope.{IsScheme, AreValues}
-use Rattle.scheme_terms.specs.Substituting.{applied, argument_or_local, parameters, scheme_for}
+use Rattle.scheme_terms.specs.Substituting.{applied, argument_or_local, knowns_from, parameters, scheme_for, IsKnownValue}
 use Rattle.scheme_terms.specs.declared.scheme.MetaDecl.{MetaDecl}
 use Rattle.pattern_unify.specs.Equations.{SchemeEquation, equation}
 use Rattle.pattern_unify.specs.Plain.{HaveNoParameters}
@@ -32,7 +32,7 @@ use Rattle.core_proofs.proofs.RuleFitting.{bare_forms, all_forms, match_both, ea
 use Rattle.core_proofs.proofs.Moving.{is_front}
 use Rattle.core_proofs.proofs.PlainForms.{plain_forms}
 use Rattle.core_proofs.proofs.Keeping.{plain_scope}
-use Rattle.binding_terms.proofs.Lists.{all_at, all_numbered, append_within, match_from, match_some, numbered_at, some_within}
+use Rattle.binding_terms.proofs.Lists.{all_at, all_numbered, append_within, match_from, match_some, numbered_at, some_within, zip_empty}
 
 -- what holds of the equation of each name holds of all of them
 from_stays : (P : SchemeEquation → Type 0) (n : ℕ) (decls : List MetaDecl) → AllNumbered (λ m decl. P (stays m)) n decls → AllByRecursion P (stays_from n decls)
@@ -128,13 +128,19 @@ module _ (th : Theory) (system : IsPlainSystem th) (st : Theorem) (scope : Names
       ↔ AllByRecursion (Becomes by.metas by.knowns) (stays_from 0 scope.metas)
   names_stay by = all_stay by.metas by.knowns 0 scope.metas plain.metas
 
+  -- a statement has no known variable, so that none changes
+  no_knowns : (by : Substitution) → AllZip (IsKnownValue by) st.scope.knowns by.knowns → by.knowns ≡ knowns_from 0 st.scope.knowns
+  no_knowns by h =
+      let none = provable.scope.1 in
+      zip_empty (IsKnownValue by) by.knowns (subst (λ ds. AllZip (IsKnownValue by) ds by.knowns) none h) ∙ sym (ap (knowns_from 0) none)
+
   pub from_goal : HasGoal th st scope form → MatchOption total ⊥ (λ eqs. (by : Substitution) × IsFitInto th.sig st.scope scope eqs by)
   from_goal has =
       let all = (match_both (Becomes has.by.metas has.by.knowns) (all_equations st.outputs (form ∷ [])) (Some (stays_from 0 scope.metas))).1
       ((becomes_form has.by).0 has.same, (names_stay has.by).0 has.others_stay) in
       let got = match_some total (AllByRecursion (Becomes has.by.metas has.by.knowns)) all in
       subst (λ o. MatchOption o ⊥ (λ eqs. (by : Substitution) × IsFitInto th.sig st.scope scope eqs by)) (sym got.1)
-      (has.by, record { into_is = has.into; kept = has.schemes; equal = got.2 })
+      (has.by, record { into_is = has.into; kept = has.schemes; knowns = no_knowns has.by has.schemes.knowns; equal = got.2 })
 
   pub to_goal : (eqs : List SchemeEquation) → total ≡ Some eqs → (by : Substitution) → IsFitInto th.sig st.scope scope eqs by → HasGoal th st scope form
   to_goal eqs e by fit =
@@ -183,7 +189,6 @@ module _ (th : Theory) (system : IsPlainSystem th) (st : Theorem) (scope : Names
 
   pub are_to_fit : (eqs : List SchemeEquation) → total ≡ Some eqs → AreToFitInto th.sig st.scope scope eqs
   are_to_fit eqs e = record {
-    knowns = provable.scope.1;
     sides = sides_together eqs e;
     strict = all_numbered (λ m decl. AnyByRecursion (λ e. StrictIn m e.left) eqs) 0 st.scope.metas
         (λ k decl here. subst (λ m. AnyByRecursion (λ e. StrictIn m e.left) eqs) (let z : k ≡ 0 + k = omega arith in z)

@@ -8,7 +8,7 @@ use Rattle.binding_terms.specs.Signature.{Signature, Place, slots}
 use Rattle.scheme_terms.specs.SchemeTree.{SchemeTree, StrictIn}
 use Rattle.scheme_terms.specs.Forms.{SchemeContext, Names, Substitution}
 use Rattle.scheme_terms.specs.SchemeScope.{AreSchemes, IsSchemeContext, AreExplicitEntries, entry_variables}
-use Rattle.scheme_terms.specs.Substituting.{applied, IsSubstitution}
+use Rattle.scheme_terms.specs.Substituting.{applied, IsKnownValue, IsSubstitution}
 use Rattle.scheme_terms.specs.declared.scheme.MetaDecl.{MetaDecl}
 use Rattle.pattern_unify.specs.Equations.{SchemeEquation}
 use Rattle.pattern_unify.specs.FitInto.{AreSidesInto, AreToFitInto, Becomes, IsFitInto, IsOnlyFitInto}
@@ -19,7 +19,7 @@ use Rattle.proof_trees.specs.RuleStep.{IsRaisedTo, IsRuleInstance}
 use Rattle.core_proofs.specs.Plain.{IsPlainForm, IsPlainRule}
 use Rattle.core_proofs.proofs.ClosedForms.{closed_form, is_closed_form}
 use Rattle.core_proofs.proofs.RuleSteps.{form_is}
-use Rattle.binding_terms.proofs.Lists.{all_append, all_front, all_right, any_front, any_back, match_some, numbered_map}
+use Rattle.binding_terms.proofs.Lists.{all_append, all_front, all_right, any_front, any_back, match_some, numbered_map, zip_empty}
 
 -- the places of a judgment's arguments
 abbrev pub places : Theory → ℕ → List Place
@@ -223,7 +223,7 @@ module _ (th : Theory) (scope : Names) (form : JudgmentScheme) (cited : List Jud
       ((premise_forms is.by).0 premises, (conclusion_form is.by).0 conclusion) in
       let got = match_some total (AllByRecursion (Becomes is.by.metas is.by.knowns)) all in
       subst (λ o. MatchOption o ⊥ (λ eqs. (by : Substitution) × IsFitInto th.sig (rule_names rule) scope eqs by)) (sym got.1)
-      (is.by, record { into_is = is.into; kept = schemes; equal = got.2 })
+      (is.by, record { into_is = is.into; kept = schemes; knowns = zip_empty (IsKnownValue is.by) is.by.knowns schemes.knowns; equal = got.2 })
 
   pub to_instance : (eqs : List SchemeEquation) → total ≡ Some eqs → (by : Substitution) → IsFitInto th.sig (rule_names rule) scope eqs by → IsRuleInstance th scope form cited rule
   to_instance eqs e by fit =
@@ -258,7 +258,6 @@ module _ (th : Theory) (scope : Names) (form : JudgmentScheme) (cited : List Jud
 
   pub are_to_fit : (eqs : List SchemeEquation) → total ≡ Some eqs → AreToFitInto th.sig (rule_names rule) scope eqs
   are_to_fit eqs e = record {
-    knowns = refl;
     sides = sides_together eqs e;
     strict = numbered_map (λ m decl. StrictInRule rule m) (λ m decl. AnyByRecursion (λ e. StrictIn m e.left) eqs) (strict_one eqs e) 0 rule.metas rule_plain.strict;
   }

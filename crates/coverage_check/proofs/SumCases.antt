@@ -15,7 +15,7 @@ use Rattle.scheme_terms.specs.Instance.{argument_or_root, IsMetaValue, IsKnownPl
 use Rattle.scheme_terms.specs.declared.scheme.MetaDecl.{MetaDecl}
 use Rattle.rule_schemes.specs.Sums.{nat, name_of, successor_scheme}
 use Rattle.pattern_unify.specs.CommonInstance.{IsCommonInstance, IsCommonGroundInstance}
-use Rattle.pattern_unify.specs.MostGeneral.{IsThrough, IsThroughOnce, IsGroundThrough, IsMostGeneral}
+use Rattle.pattern_unify.specs.MostGeneral.{IsThrough, IsThroughOnce, IsGroundThrough, IsMostGeneralUpToReach}
 use Rattle.case_split.specs.Worked.{three_names}
 use Rattle.coverage_check.specs.Case.{head_of, IsWrittenMeta}
 use Rattle.coverage_check.specs.Refinement.{StandsForItself, WrittenMetasStand, HoldsItsNames}
@@ -327,7 +327,7 @@ ground_once inst second h =
     metas_are : second.metas ≡ (ground_after inst).metas
     metas_are = three_given second second.metas h.scope.metas ∙ listed_are
 
-pub found_is_most_general : IsMostGeneral nat choice.names choice.equations found
+pub found_is_most_general : IsMostGeneralUpToReach nat choice.names choice.equations found
 found_is_most_general =
     record {
       common = found_is_common;

@@ -15,6 +15,7 @@ use Rattle.case_split.specs.Choices.{choices}
 use Rattle.case_split.specs.SyntaxChoices.{syntax_choices}
 use Rattle.case_split.specs.Answers.{IsSubject, IsSyntaxSubject}
 use Rattle.case_split.specs.Laws.{last_rule, last_premises}
+use Rattle.case_split.specs.LeafPlace.{IsAtPlace}
 use Rattle.coverage_check.specs.Case.{Case, TermCase}
 use Rattle.coverage_check.specs.Answers.{IsRefinedCase, IsRefinedTermCase}
 
@@ -28,11 +29,12 @@ pub record CheckedTermCase : Type 0 where
   pub values : Substitution
 
 -- The derivation's last step is an instance of the case: a ground instance of the case's scope, which agrees with that of the outer scope through the
--- values of the outer names, makes it a node of the case's rule, or a leaf of it, with the case's conclusion and premises.
+-- values of the outer names, makes it a node of the case's rule, or a leaf of it at the case's place, with the case's conclusion and premises.
 pub record FitsCase (th : Theory) (outer : Names) (inst : Instance) (d : Derivation) (c : CheckedCase) (own : Instance) : Type 0 where
   pub scope : FitsScope th.sig c.written.scope own
   pub agrees : followed outer.metas c.values own ≡ inst
   pub rule : c.written.rule ≡ last_rule d
+  pub place : IsAtPlace th own c.written.conclusion c.written.place d
   pub conclusion : IsInstance own c.written.conclusion (judgment d)
   pub premises : AreInstances own c.written.premises (last_premises d)
 

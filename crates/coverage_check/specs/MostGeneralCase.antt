@@ -6,7 +6,7 @@ use Rattle.scheme_terms.specs.Substituting.{applied}
 use Rattle.scheme_terms.specs.declared.scheme.MetaDecl.{MetaDecl}
 use Rattle.rule_schemes.specs.Placed.{applied_judgment}
 use Rattle.pattern_unify.specs.Equations.{SchemeEquation}
-use Rattle.pattern_unify.specs.MostGeneral.{IsMostGeneral}
+use Rattle.pattern_unify.specs.MostGeneral.{IsMostGeneralUpToReach}
 use Rattle.case_split.specs.Choice.{JudgmentChoice, SyntaxChoice}
 use Rattle.coverage_check.specs.Case.{Case, TermCase, Head, head_of, term_head_of, IsWrittenMeta}
 use Rattle.coverage_check.specs.Refinement.{StandsForItself, HoldsItsNames}
@@ -18,7 +18,7 @@ pub record IsMostGeneralCase (sig : Signature) (outer : Names) (choice : Judgmen
   pub place : c.place ≡ choice.place
   pub root : c.scope.root ≡ outer.root
   pub into : by.into ≡ c.scope
-  pub most_general : IsMostGeneral sig choice.names choice.equations by
+  pub most_general : IsMostGeneralUpToReach sig choice.names choice.equations by
   pub premises : map (applied_judgment by) choice.premises ≡ c.premises
   pub conclusion : applied_judgment by choice.conclusion ≡ c.conclusion
   pub names : HoldsItsNames outer by c.scope (head_of c)
@@ -29,7 +29,7 @@ pub record IsMostGeneralTermCase (sig : Signature) (outer : Names) (entries : �
   pub place : c.place ≡ choice.place
   pub root : c.scope.root ≡ outer.root
   pub into : by.into ≡ c.scope
-  pub most_general : IsMostGeneral sig choice.names choice.equations by
+  pub most_general : IsMostGeneralUpToReach sig choice.names choice.equations by
   pub form : applied by.metas by.knowns entries choice.term ≡ c.term
   pub names : HoldsItsNames outer by c.scope (term_head_of c)
 
@@ -50,7 +50,7 @@ TakesToItself by m decl = (at : ℕ) × StandsForItself by m decl at
 pub record IsTaken (sig : Signature) (outer choice_names : Names) (eqs : List SchemeEquation) (scope : Names) (head : Head) (m : ℕ) : Type 0 where
   pub decl : MetaDecl
   pub written : IsWrittenOuter outer scope head m decl
-  pub none : (by : Substitution) → IsMostGeneral sig choice_names eqs by → TakesToItself by m decl →
+  pub none : (by : Substitution) → IsMostGeneralUpToReach sig choice_names eqs by → TakesToItself by m decl →
       ((earlier : ℕ) (other : MetaDecl) → earlier < m → IsWrittenOuter outer scope head earlier other → TakesToItself by earlier other) → ⊥
 
 -- the first name that is taken, in the order of the outer scope

@@ -17,7 +17,7 @@ use Rattle.pattern_unify.proofs.TurnInstances.{turn_keeps_common_instances}
 use Rattle.pattern_unify.proofs.GroundTurns.{ground_instances_stay}
 use Rattle.pattern_unify.proofs.GroundClashing.{clash_has_none}
 use Rattle.pattern_unify.proofs.RunInstances.{start_has_common_instances, start_has_ground_instances}
-use Rattle.pattern_unify.proofs.SolvedRuns.{left_root, left_leads_to_every, left_is_most_general}
+use Rattle.pattern_unify.proofs.SolvedRuns.{left_root, left_is_most_general}
 
 abbrev kind : End → ℕ
 kind (solved st) = 0
@@ -46,7 +46,6 @@ solved_answer sig names eqs st by fits owed run same =
     subst (λ b. IsUnifyAnswer sig names eqs (unifier b)) (sym same) (record {
       root = left_root sig names eqs st fits owed run;
       most_general = left_is_most_general sig names eqs st fits owed run;
-      every = left_leads_to_every sig names eqs st fits owed run;
       within = within sig names eqs (solved st) run (λ e. absurd (omega (arith, e)));
     })
 

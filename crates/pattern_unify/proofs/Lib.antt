@@ -24,6 +24,7 @@ pub mod LinesKept
 pub mod LinesOfRuns
 pub mod MoveValues
 pub mod MovedNames
+pub mod NumbersKept
 pub mod OnlyOne
 pub mod PatternRuns
 pub mod PatternsKept

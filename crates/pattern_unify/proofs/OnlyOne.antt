@@ -4,13 +4,13 @@ use Rattle.std.specs.List.{AllByRecursion, AllZip}
 use Rattle.std.proofs.lemmas.Bool.{cases_lt}
 use Rattle.std.proofs.lemmas.Option.{slice_get_within, slice_get_past}
 use Rattle.std.proofs.lemmas.Slice.Zip.{AllZip-long}
-use Rattle.binding_terms.specs.Numbered.{AnyByRecursion}
+use Rattle.binding_terms.specs.Numbered.{AnyByRecursion, AllNumbered}
 use Rattle.binding_terms.specs.Signature.{Signature}
 use Rattle.binding_terms.proofs.Lists.{some_within, numbered_at}
 use Rattle.scheme_terms.specs.SchemeTree.{SchemeTree, local, StrictIn}
 use Rattle.scheme_terms.specs.Forms.{Names, Substitution, KnownVariable}
 use Rattle.scheme_terms.specs.SchemeScope.{IsScheme, params_scope}
-use Rattle.scheme_terms.specs.Substituting.{scheme_for, applied, IsKnownValue}
+use Rattle.scheme_terms.specs.Substituting.{scheme_for, applied, knowns_from, IsKnownValue}
 use Rattle.scheme_terms.specs.Demands.{Demands}
 use Rattle.scheme_terms.specs.declared.scheme.MetaDecl.{MetaDecl}
 use Rattle.scheme_terms.proofs.SchemeFacts.{scheme_below}
@@ -43,6 +43,15 @@ typed_zip R [] (s ∷ ss) long h = absurd (let no : ⊥ = omega (arith, long) in
 typed_zip R (decl ∷ decls) [] long h = absurd (let no : ⊥ = omega (arith, long) in no)
 typed_zip R (decl ∷ decls) (s ∷ ss) long h = (h 0 decl refl, typed_zip R decls ss (omega (arith, long)) (λ m d e. h (suc m) d e))
 
+-- known variables that keep their numbers, told one by one and as two lists
+keep_numbers : (R : KnownVariable → ℕ → Type 0) (n : ℕ) (decls : List KnownVariable) → AllNumbered (λ k decl. R decl k) n decls → AllZip R decls (knowns_from n decls)
+keep_numbers R n [] h = tt
+keep_numbers R n (decl ∷ decls) h = (h.0, keep_numbers R (suc n) decls h.1)
+
+numbers_kept : (R : KnownVariable → ℕ → Type 0) (n : ℕ) (decls : List KnownVariable) → AllZip R decls (knowns_from n decls) → AllNumbered (λ k decl. R decl k) n decls
+numbers_kept R n [] h = tt
+numbers_kept R n (decl ∷ decls) h = (h.0, numbers_kept R (suc n) decls h.1)
+
 module _ (sig : Signature) (from into : Names) (eqs : List SchemeEquation) (owed : AreToFitInto sig from into eqs) where
   abbrev IsTyped : Names → MetaDecl → SchemeTree → Type 0
   IsTyped names decl s = IsScheme sig names (params_scope decl) decl.cat.0 s
@@ -67,14 +76,16 @@ module _ (sig : Signature) (from into : Names) (eqs : List SchemeEquation) (owed
   found_at : (ss : List SchemeTree) (m : ℕ) → m < length ss → slice_get ss m ≡ Some (scheme_for ss m)
   found_at ss m below = let found = some_within ss m below in found.1 ∙ ap Some (sym (ap (λ o. unwrap_or o (local 0)) found.1))
 
-  no_knowns : (decls : List KnownVariable) (by : Substitution) (ks : List ℕ) → decls ≡ [] → AllZip (IsKnownValue by) decls ks → ks ≡ []
-  no_knowns [] by [] e h = refl
-  no_knowns [] by (k ∷ ks) e h = absurd h
-  no_knowns (d ∷ decls) by ks e h = absurd (let no : ⊥ = cc in no)
+  abbrev kept_knowns : List ℕ
+  kept_knowns = knowns_from 0 from.knowns
+
+  -- what is looked at once each metavariable has what is asked of it
+  abbrev pub IsFound : Substitution → Type 0
+  IsFound by = AllNumbered (λ k decl. IsKnownValue by decl k) 0 from.knowns × AllByRecursion (Becomes by.metas by.knowns) eqs
 
   module _ (vs : List SchemeTree) (asked : AreAsked eqs (length from.metas) (Some vs)) where
-    abbrev answer : Substitution
-    answer = record { metas = vs; knowns = []; into = into }
+    abbrev pub answer : Substitution
+    answer = record { metas = vs; knowns = kept_knowns; into = into }
 
     asked_at : (m : ℕ) → m < length from.metas → IsAsked eqs m (scheme_for vs m)
     asked_at m below =
@@ -94,35 +105,36 @@ module _ (sig : Signature) (from into : Names) (eqs : List SchemeEquation) (owed
     pub only_one : (by : Substitution) → IsFitInto sig from into eqs by → by ≡ answer
     only_one by fit =
         let first : by.metas ≡ vs = same_lists by.metas vs (λ m. same_at by fit m (cases_lt m (length from.metas))) in
-        let second = no_knowns from.knowns by by.knowns owed.knowns fit.kept.knowns in
+        let second = fit.knowns in
         let third = fit.into_is in
         λ i. record { metas = first i; knowns = second i; into = third i }
 
-    pub none_becomes : (AllByRecursion (Becomes vs []) eqs → ⊥) → IsOnlyFitInto sig from into eqs None
-    none_becomes other by fit =
-        let same = only_one by fit in
-        other (subst (λ (x : Substitution). AllByRecursion (Becomes x.metas x.knowns) eqs) same fit.equal)
+    pub none_fits : (IsFound answer → ⊥) → IsOnlyFitInto sig from into eqs None
+    none_fits other by fit =
+        other (subst IsFound (only_one by fit)
+        (numbers_kept (IsKnownValue by) 0 from.knowns (subst (AllZip (IsKnownValue by) from.knowns) fit.knowns fit.kept.knowns), fit.equal))
 
     -- each value is of its name's category, since a left side with a strict occurrence of the name becomes a right side
-    value_typed : AllByRecursion (Becomes vs []) eqs → (m : ℕ) (decl : MetaDecl) → slice_get from.metas m ≡ Some decl → IsTyped into decl (scheme_for vs m)
+    value_typed : AllByRecursion (Becomes vs kept_knowns) eqs → (m : ℕ) (decl : MetaDecl) → slice_get from.metas m ≡ Some decl → IsTyped into decl (scheme_for vs m)
     value_typed become m decl named =
-        let one = one_of (λ e. StrictIn m e.left) (AreSidesInto sig from into) (Becomes vs []) eqs
+        let one = one_of (λ e. StrictIn m e.left) (AreSidesInto sig from into) (Becomes vs kept_knowns) eqs
         (strict_at m (slice_get_within from.metas m decl named)) owed.sides become in
-        let right : IsScheme sig into (one.0.locals ++ []) one.2.0 (applied vs [] (length one.0.locals) one.0.left) =
-        subst (λ ls. IsScheme sig into ls one.2.0 (applied vs [] (length one.0.locals) one.0.left)) (sym (append-nil one.0.locals))
+        let right : IsScheme sig into (one.0.locals ++ []) one.2.0 (applied vs kept_knowns (length one.0.locals) one.0.left) =
+        subst (λ ls. IsScheme sig into ls one.2.0 (applied vs kept_knowns (length one.0.locals) one.0.left)) (sym (append-nil one.0.locals))
         (subst (IsScheme sig into one.0.locals one.2.0) (sym one.3) one.2.2) in
         subst (λ ls. IsScheme sig into ls decl.cat.0 (scheme_for vs m)) (append-nil (params_scope decl))
-        (strict_is_scheme [] [] (λ i c e. e) sig from into (applied_making vs []) m decl named one.0.locals one.2.0 one.0.left one.1 one.2.1 right)
+        (strict_is_scheme [] [] (λ i c e. e) sig from into (applied_making vs kept_knowns) m decl named one.0.locals one.2.0 one.0.left one.1 one.2.1 right)
 
-    pub one_fits : AllByRecursion (Becomes vs []) eqs → IsOnlyFitInto sig from into eqs (Some answer)
-    one_fits become = (
+    pub one_fits : IsFound answer → IsOnlyFitInto sig from into eqs (Some answer)
+    one_fits fits = (
       record {
         into_is = refl;
         kept = record {
-          metas = typed_zip (IsTyped into) from.metas vs asked.0 (λ m decl named. value_typed become m decl named);
-          knowns = subst (λ ds. AllZip (IsKnownValue answer) ds []) (sym owed.knowns) tt;
+          metas = typed_zip (IsTyped into) from.metas vs asked.0 (λ m decl named. value_typed fits.1 m decl named);
+          knowns = keep_numbers (IsKnownValue answer) 0 from.knowns fits.0;
         };
-        equal = become;
+        knowns = refl;
+        equal = fits.1;
       },
       only_one,
     )

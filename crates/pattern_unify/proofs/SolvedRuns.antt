@@ -9,7 +9,7 @@ use Rattle.pattern_unify.specs.State.{State, start}
 use Rattle.pattern_unify.specs.LeftNames.{left_names}
 use Rattle.pattern_unify.specs.MostGeneral.{IsThroughOnce}
 use Rattle.pattern_unify.specs.Run.{solved, Runs}
-use Rattle.pattern_unify.specs.CommonLaws.{SolvedIsMostGeneral}
+use Rattle.pattern_unify.specs.CommonLaws.{SolvedIsMostGeneral, MostGeneralIsUpToReach}
 use Rattle.pattern_unify.proofs.RunInstances.{Found, solved_run_found}
 use Rattle.pattern_unify.proofs.LeftInstances.{left_is_common}
 use Rattle.pattern_unify.proofs.ThroughLeft.{through_once}
@@ -33,6 +33,10 @@ left_is_most_general sig names eqs st fits owed run =
     let one : Found sig names eqs st = found sig names eqs st fits owed run in
     record {
       common = left_is_common sig names eqs st owed.knowns owed.sides one;
-      every = λ other reached common. left_leads_to_every sig names eqs st fits owed run other common;
+      every = left_leads_to_every sig names eqs st fits owed run;
       ground_one = λ inst common. ground_through_once sig names eqs st owed.knowns owed.sides one inst (one.ground_ones inst common);
     }
+
+pub most_general_up_to_reach : MostGeneralIsUpToReach
+most_general_up_to_reach sig names eqs by is =
+    record { common = is.common; every = λ other reached common. is.every other common; ground_one = is.ground_one }

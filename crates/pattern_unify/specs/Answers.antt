@@ -8,8 +8,8 @@ use Rattle.pattern_unify.specs.declared.unified.Unified.{Unified}
 use Rattle.pattern_unify.specs.declared.unified.Unified.TheVariants.{Unifier, NoUnifier, Outside}
 use Rattle.pattern_unify.specs.Equations.{SchemeEquation, equation}
 use Rattle.pattern_unify.specs.Plain.{NothingBinds, HaveNoParameters}
-use Rattle.pattern_unify.specs.CommonInstance.{IsCommonInstance, HaveCommonInstance}
-use Rattle.pattern_unify.specs.MostGeneral.{IsMostGeneral, IsThroughOnce}
+use Rattle.pattern_unify.specs.CommonInstance.{HaveCommonInstance}
+use Rattle.pattern_unify.specs.MostGeneral.{IsMostGeneral}
 use Rattle.pattern_unify.specs.Run.{EndsStuck, IsWithinFragment}
 
 -- nothing binds, no name has parameters, there is no known variable, and no side stands under locals
@@ -30,12 +30,10 @@ unify_answer (Unifier by) = unifier (substitution by)
 unify_answer NoUnifier = no_unifier
 unify_answer (Outside eqs) = outside (map equation eqs)
 
--- A most general common instance, where the run does not end stuck. Its names stand over the root of the scope, and no common instance is left
--- out: also one into a scope where a metavariable has parameters that its category does not reach is one after it in exactly one way.
+-- A most general common instance, where the run does not end stuck. Its names stand over the root of the scope.
 pub record IsUnifier (sig : Signature) (names : Names) (eqs : List SchemeEquation) (by : Substitution) : Type 0 where
   pub root : by.into.root ≡ names.root
   pub most_general : IsMostGeneral sig names eqs by
-  pub every : (other : Substitution) → IsCommonInstance sig names eqs other → IsThroughOnce sig by other
   pub within : IsWithinFragment sig names eqs
 
 -- there is no common instance, and the run does not end stuck

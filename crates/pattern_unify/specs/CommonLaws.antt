@@ -8,7 +8,7 @@ use Rattle.scheme_terms.specs.SchemeScope.{IsRoot}
 use Rattle.scheme_terms.specs.Substituting.{composed, followed}
 use Rattle.pattern_unify.specs.Equations.{SchemeEquation, AreToUnify}
 use Rattle.pattern_unify.specs.CommonInstance.{IsCommonInstance, IsCommonGroundInstance}
-use Rattle.pattern_unify.specs.MostGeneral.{IsMostGeneral}
+use Rattle.pattern_unify.specs.MostGeneral.{IsMostGeneral, IsMostGeneralUpToReach}
 use Rattle.pattern_unify.specs.State.{State, names_of, start}
 use Rattle.pattern_unify.specs.Move.{goes_on}
 use Rattle.pattern_unify.specs.Run.{Turn, solved, Runs, IsWithinFragment}
@@ -51,6 +51,11 @@ abbrev pub SolvedIsMostGeneral : Type 0
 SolvedIsMostGeneral =
     (sig : Signature) (names : Names) (eqs : List SchemeEquation) (st : State) → Fits sig → AreToUnify sig names eqs →
     Runs sig (start names eqs) (solved st) → IsMostGeneral sig names eqs (composed st.so_far (left_names st))
+
+-- what is most general is so up to reach
+abbrev pub MostGeneralIsUpToReach : Type 0
+MostGeneralIsUpToReach =
+    (sig : Signature) (names : Names) (eqs : List SchemeEquation) (by : Substitution) → IsMostGeneral sig names eqs by → IsMostGeneralUpToReach sig names eqs by
 
 -- every metavariable of the scheme is applied to distinct locals
 abbrev mutual

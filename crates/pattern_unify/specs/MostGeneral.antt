@@ -39,10 +39,15 @@ HasReachedParams sig decl = AllByRecursion (λ v. Reaches sig decl.cat.0 v.0) de
 abbrev pub HaveReachedParams : Signature → Names → Type 0
 HaveReachedParams sig names = AllByRecursion (HasReachedParams sig) names.metas
 
--- A most general common instance: each common instance, a substitution or a ground one, is one after it in exactly one way. Of the substitutions those
--- into scopes count where each metavariable has only parameters that its category reaches; so a name that leaves such a parameter out is as general
--- as one that has it.
+-- A most general common instance: each common instance, a substitution or a ground one, is one after it in exactly one way.
 pub record IsMostGeneral (sig : Signature) (names : Names) (eqs : List SchemeEquation) (by : Substitution) : Type 0 where
+  pub common : IsCommonInstance sig names eqs by
+  pub every : (other : Substitution) → IsCommonInstance sig names eqs other → IsThroughOnce sig by other
+  pub ground_one : (inst : Instance) → IsCommonGroundInstance sig names eqs inst → IsGroundThroughOnce sig names by inst
+
+-- The same where of the substitutions those alone count that go into scopes whose metavariables have only parameters that their category reaches. So a
+-- name that leaves another parameter out is as general as one that has it.
+pub record IsMostGeneralUpToReach (sig : Signature) (names : Names) (eqs : List SchemeEquation) (by : Substitution) : Type 0 where
   pub common : IsCommonInstance sig names eqs by
   pub every : (other : Substitution) → HaveReachedParams sig other.into → IsCommonInstance sig names eqs other → IsThroughOnce sig by other
   pub ground_one : (inst : Instance) → IsCommonGroundInstance sig names eqs inst → IsGroundThroughOnce sig names by inst

@@ -1,15 +1,19 @@
 ghost use Rattle.std.specs.Prelude.{◌↔◌, IsTrue, IfOk, length, map, option_map};
 ghost use Rattle.std.specs.List.{AllByRecursion};
+ghost use Rattle.binding_terms.specs.Numbered.{AllNumbered};
 ghost use Rattle.scheme_terms.specs.Demands.{IsDemanded};
-ghost use Rattle.scheme_terms.specs.View.{scheme, names, substitution};
+ghost use Rattle.scheme_terms.specs.Substituting.{IsKnownValue};
+ghost use Rattle.scheme_terms.specs.View.{scheme, names, substitution, known_variable};
 ghost use Rattle.pattern_unify.specs.Equations.{equation};
 ghost use Rattle.pattern_unify.specs.FitInto.{AreToFitInto, Becomes, IsOnlyFitInto};
 ghost use Rattle.pattern_unify.specs.Asked.{IsAsked, AreAsked};
 
 use crate::equation::Equation;
+use crate::kept::keep_numbers;
 use binding_terms::{NoMemory, Sig, number};
 use scheme_terms::{
-    MetaId, Scheme, Scope, Subst, apply_under, copy_scope, demanded_scheme, same_scheme,
+    MetaId, Scheme, Scope, Subst, apply_under, copy_scope, demanded_scheme, identity_of,
+    same_scheme,
 };
 use sqlite_items::Items;
 use std::alloc::Global;
@@ -71,8 +75,20 @@ fn all_become(alloc: Global, by: &Subst, eqs: &[Equation]) -> Result<bool, NoMem
     Ok(true)
 }
 
+/// Whether each known variable keeps its number and each left side becomes its right side.
+fn fits(alloc: Global, by: &Subst, from: &Scope, eqs: &[Equation]) -> Result<bool, NoMemory>
+    ensures { IfOk result (λ is. IsTrue is ↔ (AllNumbered (λ k decl. IsKnownValue (substitution by.now) decl k) 0 (map known_variable from.now.knowns)
+        × AllByRecursion (Becomes (substitution by.now).metas (substitution by.now).knowns) (map equation eqs.now))) }
+{
+    if !keep_numbers(alloc, by, from.knowns.as_slice())? {
+        return Ok(false);
+    }
+    let equal = all_become(alloc, by, eqs)?;
+    Ok(equal)
+}
+
 /// The one substitution of the names of `from` by schemes of `into` that makes each left side, which is over `from`, its right
-/// side, which is over `into`, or none where there is none.
+/// side, which is over `into`, or none where there is none. Known variables keep their numbers.
 pub fn fit_into(
     alloc: Global,
     sig: &Sig,
@@ -86,12 +102,10 @@ pub fn fit_into(
     let Some(metas) = asked_of_all(alloc, from.metas.as_slice().len(), eqs.as_slice())? else {
         return Ok(None);
     };
-    let by = Subst {
-        metas,
-        knowns: Items::new(alloc),
-        into: copy_scope(alloc, into)?,
-    };
-    if all_become(alloc, &by, eqs.as_slice())? {
+    let mut by = identity_of(alloc, from)?;
+    by.metas = metas;
+    by.into = copy_scope(alloc, into)?;
+    if fits(alloc, &by, from, eqs.as_slice())? {
         Ok(Some(by))
     } else {
         Ok(None)

@@ -1,6 +1,6 @@
 //! What holds of the moves of a unification and of its written run. The functions do nothing: their contracts are the laws.
 
-ghost use Rattle.pattern_unify.specs.CommonLaws.{StartHasCommonInstances, TurnKeepsCommonInstances, TurnKeepsGroundInstances, SolvedIsMostGeneral, PatternsAreWithin};
+ghost use Rattle.pattern_unify.specs.CommonLaws.{StartHasCommonInstances, TurnKeepsCommonInstances, TurnKeepsGroundInstances, SolvedIsMostGeneral, MostGeneralIsUpToReach, PatternsAreWithin};
 ghost use Rattle.pattern_unify.specs.Laws.{TurnKeepsState, TurnFalls, TurnFallsBy, TurnIsFunction, RunEnds, RunIsFunction, WithinOrStuck, StuckSystemIsOne, ClashHasNone};
 
 /// A turn keeps the scopes: its equations have sides of one category, and each metavariable has become a scheme of its category.
@@ -66,6 +66,12 @@ pub fn turn_keeps_ground_instances()
 /// What a solved run has found is, over the names that are left, a most general common instance.
 pub fn solved_is_most_general()
     ensures { SolvedIsMostGeneral }
+{}
+
+/// What is most general is so where of the substitutions those alone count that go into scopes whose metavariables have only parameters
+/// that their category reaches.
+pub fn most_general_is_up_to_reach()
+    ensures { MostGeneralIsUpToReach }
 {}
 
 /// Equations of patterns are within the fragment: their run does not end stuck.

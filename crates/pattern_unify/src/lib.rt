@@ -4,6 +4,7 @@
 mod arguments;
 mod equation;
 mod fitting;
+mod kept;
 pub mod laws;
 mod left;
 mod moves;

@@ -22,7 +22,7 @@ use Rattle.proof_trees.specs.Steps.{step_subject, SplitHead, CaseHead, by_name}
 use Rattle.proof_trees.specs.Tree.{Items, item, single, block, no_items, no_cases, one_case, Proof}
 use Rattle.binding_terms.specs.Numbered.{AnyByRecursion}
 use Rattle.pattern_unify.specs.CommonInstance.{IsCommonInstance, IsCommonGroundInstance}
-use Rattle.pattern_unify.specs.MostGeneral.{IsThroughOnce, IsGroundThroughOnce, IsMostGeneral}
+use Rattle.pattern_unify.specs.MostGeneral.{IsThroughOnce, IsGroundThroughOnce, IsMostGeneralUpToReach}
 use Rattle.case_split.specs.declared.choice.Place.{Place}
 use Rattle.case_split.specs.declared.choice.Place.TheVariants.{Plain}
 use Rattle.case_split.specs.Choice.{JudgmentChoice}
@@ -153,7 +153,7 @@ three_terms inst is_ground = of_metas inst.metas is_ground.scope.metas is_ground
         ap₂ (λ x xs. Some x ∷ xs) (is_zero_term a e) (ap₂ (λ x xs. Some x ∷ xs) (is_zero_term b f) (ap (λ x. Some x ∷ []) (is_zero_term c g)))
 
 -- z for each name is a most general common instance
-is_most_general : IsMostGeneral nat choice.names choice.equations refine
+is_most_general : IsMostGeneralUpToReach nat choice.names choice.equations refine
 is_most_general =
     record {
       common = record {

@@ -1,11 +1,11 @@
 -- Weakening, exchange and substitution of derivations. To be held against docs/notation.md, 'Runs'.
-use Rattle.std.specs.Prelude.{◌≡◌, ℕ, zero, suc, ◌+◌, ◌-◌, ◌==◌, nat_lt, if◌then◌else◌, List, [], ◌∷◌, ◌++◌, length, map, take, drop, Option, Some, None, slice_get}
+use Rattle.std.specs.Prelude.{◌≡◌, ℕ, suc, ◌+◌, ◌-◌, ◌==◌, nat_lt, if◌then◌else◌, List, [], ◌∷◌, ◌++◌, length, map, take, drop, Option, Some, None, slice_get}
 use Rattle.binding_terms.specs.Tree.{Tree, var, shifted, put_in}
 use Rattle.binding_terms.specs.Substitution.{filled}
-use Rattle.scheme_terms.specs.SchemeTree.{SchemeTree, local}
 use Rattle.scheme_terms.specs.Forms.{GroundEntry}
 use Rattle.rule_schemes.specs.Rules.{JudgmentValue, Rule, Theory, assumed_by}
 use Rattle.rule_schemes.specs.Derivation.{Derivation, node, leaf, Subtrees, no_more, subtree, judgment}
+use Rattle.case_split.specs.LeafPlace.{place_of_variable}
 
 -- the first where there is no context, else the second
 abbrev pub by_context : {A : Type 0} → (cat : Option ℕ) → A → A → A
@@ -106,16 +106,6 @@ abbrev mutual
   pub substituted_subtrees : (place : ℕ) → Tree → (given : Derivation) → Subtrees → Subtrees
   substituted_subtrees p t given no_more = no_more
   substituted_subtrees p t given (subtree d ds) = subtree (substituted p t given d) (substituted_subtrees p t given ds)
-
--- at which argument the variable of an assumption rule stands
-abbrev pub is_innermost : SchemeTree → ℕ → ℕ → ℕ
-is_innermost (local zero) here further = here
-is_innermost _ here further = further
-
--- the number of that argument
-abbrev pub place_of_variable : List SchemeTree → ℕ
-place_of_variable [] = 0
-place_of_variable (s ∷ ss) = is_innermost s 0 (suc (place_of_variable ss))
 
 -- the term for which a judgment is the assumption judgment of the last entry of the other
 pub record IsTermFor (th : Theory) (by_judgment : JudgmentValue) (entry : GroundEntry) (t : Tree) : Type 0 where

@@ -1,10 +1,10 @@
 -- The values of theorems: the derivations that their proofs make of inputs. To be held against docs/notation.md, 'Runs'.
-use Rattle.std.specs.Prelude.{◌≡◌, ℕ, suc, ◌+◌, ◌-◌, List, [], ◌∷◌, ◌++◌, length, map, Option, Some, slice_get, unwrap_or, MatchOption}
+use Rattle.std.specs.Prelude.{◌≡◌, ℕ, suc, ◌+◌, ◌-◌, List, [], ◌∷◌, ◌++◌, length, map, Option, Some, slice_get, MatchOption}
 use Rattle.std.specs.List.{AllZip}
 use Rattle.binding_terms.specs.Tree.{Tree}
-use Rattle.scheme_terms.specs.SchemeTree.{SchemeTree, local, known}
+use Rattle.scheme_terms.specs.SchemeTree.{SchemeTree}
 use Rattle.scheme_terms.specs.Forms.{GroundEntry, SchemeEntry, ContextValue, Names, Instance, Substitution}
-use Rattle.scheme_terms.specs.Instance.{instance_of, context_instance, place_of, FitsScope}
+use Rattle.scheme_terms.specs.Instance.{instance_of, context_instance, FitsScope}
 use Rattle.scheme_terms.specs.Substituting.{followed, scheme_for}
 use Rattle.scheme_terms.specs.declared.scheme.MetaDecl.{MetaDecl}
 use Rattle.rule_schemes.specs.Rules.{JudgmentScheme, JudgmentValue, Rule, Theory, IsAssumption, judgment_instance, IsInstance}
@@ -12,14 +12,14 @@ use Rattle.rule_schemes.specs.Derivation.{Derivation, node, leaf, judgment, Subt
 use Rattle.rule_schemes.specs.Statement.{StatementInput, given, syntax_input, Theorem, InputTree, derived, term, IsInstantiation}
 use Rattle.proof_trees.specs.Steps.{CallArgument, step_argument, scheme_argument, Simple, by_rule, by_call, by_name, by_weakening, by_exchange, by_substitution, Subject, step_subject, scheme_subject, SplitHead, CaseHead}
 use Rattle.proof_trees.specs.Tree.{single, block, Items, no_items, item, Cases, one_case, Proof, numbers_of, numbers_of_cases}
-use Rattle.case_split.specs.declared.choice.Place.{Place}
-use Rattle.case_split.specs.declared.choice.Place.TheVariants.{Plain, Known, Explicit}
+use Rattle.case_split.specs.declared.choice.Place.TheVariants.{Plain}
+use Rattle.case_split.specs.LeafPlace.{leaf_place, IsLeafPlace}
 use Rattle.theorem_calls.specs.Call.{with_fresh}
 use Rattle.theorem_calls.specs.Raised.{Argument}
 use Rattle.proof_trees.specs.Calls.{IsCall, callee_context}
 use Rattle.proof_trees.specs.Choices.{SubjectForm}
 use Rattle.proof_trees.specs.WrittenCases.{IsWrittenCase}
-use Rattle.proof_trees.specs.StructuralSteps.{weakened, exchanged, substituted, place_of_variable, IsTermFor}
+use Rattle.proof_trees.specs.StructuralSteps.{weakened, exchanged, substituted, IsTermFor}
 use Rattle.proof_trees.specs.Here.{Here, nones, after_step, after_block, around_cases, after_case, entering, IsAnalysed, first_context, beginning}
 use Rattle.proof_trees.specs.Right.{IsHanded, IsProofScope}
 
@@ -50,17 +50,6 @@ abbrev pub given_trees : List InputTree → List (Option Derivation)
 given_trees [] = []
 given_trees (derived d ∷ xs) = Some d ∷ given_trees xs
 given_trees (term t ∷ xs) = given_trees xs
-
--- the place of the variable that stands at the place of a rule's variable: that of an explicit entry or of a known variable
-abbrev pub place_of_scheme : Instance → (entries : ℕ) → SchemeTree → ℕ
-place_of_scheme inst n (local i) = length inst.root.entries + (n - suc i)
-place_of_scheme inst n (known k) = place_of inst k
-place_of_scheme inst n _ = 0
-
--- the place of a leaf by an assumption rule with this form
-abbrev pub leaf_place : Instance → Rule → JudgmentScheme → ℕ
-leaf_place inst rule form =
-    place_of_scheme inst (length form.context.entries) (unwrap_or (slice_get form.args (place_of_variable rule.conclusion.args)) (local 0))
 
 -- a block with forms puts its value in scope under their numbers
 abbrev pub made_under : List JudgmentScheme → List Derivation → List (Option Derivation)
@@ -94,13 +83,7 @@ pub record Extends (th : Theory) (wider : Names) (inst more : Instance) : Type 0
   pub further : List (Option Tree)
   pub metas : more.metas ≡ inst.metas ++ further
 
--- The derivation that is analysed is a node of the case's rule, or a leaf at its place, with the case's conclusion and premises.
-abbrev pub IsLeafPlace : Instance → JudgmentScheme → Rule → Place → (at : ℕ) → Type 0
-IsLeafPlace inst conclusion rule Plain at = ⊥
-IsLeafPlace inst conclusion rule Known at = at ≡ leaf_place inst rule conclusion
-IsLeafPlace inst conclusion rule (Explicit i) at = at ≡ length inst.root.entries + i
-
--- the derivation is of the case
+-- the derivation that is analysed is a node of the case's rule, or a leaf at its place, with the case's conclusion and premises
 abbrev pub IsOfCase : Theory → Instance → CaseHead → Derivation → Type 0
 IsOfCase th inst head (node r j ds) =
     (r ≡ head.number) × (head.place ≡ Plain) × MatchOption head.conclusion ⊥ (λ form. IsInstance inst form j) × AreInstances inst head.premises ds
