@@ -3,6 +3,7 @@ pub mod Falls
 pub mod Fitting
 pub mod Inputs
 pub mod Judged
+pub mod Laws
 pub mod Nodes
 pub mod Pairs
 pub mod Parts

@@ -5,7 +5,7 @@ ghost use Rattle.binding_terms.specs.View.{tree};
 ghost use Rattle.scheme_terms.specs.Demands.{IsDemanded};
 ghost use Rattle.scheme_terms.specs.Embedding.{embedded};
 ghost use Rattle.scheme_terms.specs.SchemeTree.{meta, no_values};
-ghost use Rattle.scheme_terms.specs.View.{scheme, ground_entry, context_value, instance as view};
+ghost use Rattle.scheme_terms.specs.View.{scheme, context_value, instance as view};
 ghost use Rattle.rule_schemes.specs.Statement.{IsStatement, HasNoFault};
 ghost use Rattle.rule_schemes.specs.View.{theory, statement as theorem, statement_input};
 ghost use Rattle.derivation_check.specs.Fitting.{PieceMatches, MakesInputs, FitSoFar, IsFit};
@@ -18,9 +18,10 @@ use crate::matching::matches;
 use crate::node::always_so_far;
 use crate::pieces::{Piece, all_pieces, are_inputs_alike};
 use crate::settled::is_settled;
-use binding_terms::{NoMemory, Term, copy, number};
+use binding_terms::{NoMemory, Term, number};
 use rule_schemes::{Input, Statement, System};
-use scheme_terms::{CtxValue, Entry, Inst, MetaId, Scheme, demanded_term};
+use scheme_match::copy_context;
+use scheme_terms::{CtxValue, Inst, MetaId, Scheme, demanded_term};
 use sqlite_items::Items;
 use std::alloc::Global;
 
@@ -133,33 +134,6 @@ fn all_match(
         }
     }
     Ok(true)
-}
-
-fn copy_entry(alloc: Global, entry: &Entry) -> Result<Entry, NoMemory>
-    ensures { IfOk result (λ new. ground_entry new ≡ ground_entry entry.now) }
-{
-    let mut args = Items::new(alloc);
-    for arg in entry.args.as_slice() {
-        args.push(copy(alloc, arg)?)?;
-    }
-    Ok(Entry {
-        prod: entry.prod,
-        args,
-    })
-}
-
-/// The same context again.
-fn copy_context(alloc: Global, value: &CtxValue) -> Result<CtxValue, NoMemory>
-    ensures { IfOk result (λ new. context_value new ≡ context_value value.now) }
-{
-    let mut entries = Items::new(alloc);
-    for entry in value.entries.as_slice() {
-        entries.push(copy_entry(alloc, entry)?)?;
-    }
-    Ok(CtxValue {
-        cat: value.cat,
-        entries,
-    })
 }
 
 /// Whether one ground instance over the context makes these inputs what is given.

@@ -7,6 +7,7 @@ mod fault;
 mod giving;
 mod inputs;
 mod judged;
+pub mod laws;
 mod leaf;
 mod matching;
 mod node;

@@ -13,8 +13,9 @@ ghost use Rattle.derivation_check.specs.Pieces.{piece, given_form};
 
 use crate::inputs::InputForm;
 use crate::judged::{is_judgment, scope_of};
-use binding_terms::{CatId, NoMemory, Term, in_scope, same};
+use binding_terms::{CatId, NoMemory, Term, in_scope};
 use rule_schemes::{Input, JScheme, JudgInst, System};
+use scheme_match::same_entries;
 use scheme_terms::{CtxValue, Entry, MetaDecl, MetaId, Root, SEntry, Scheme};
 use std::alloc::Global;
 
@@ -117,40 +118,6 @@ fn entries_alike(patterns: &[SEntry], targets: &[Entry]) -> bool
     }
     for i in 0..patterns.len() {
         if !is_entry_alike(&patterns[i], &targets[i]) {
-            return false;
-        }
-    }
-    true
-}
-
-fn same_terms(xs: &[Term], ys: &[Term]) -> bool
-    ensures { IsTrue result ↔ (map tree xs.now ≡ map tree ys.now) }
-{
-    if xs.len() != ys.len() {
-        return false;
-    }
-    for i in 0..xs.len() {
-        if !same(&xs[i], &ys[i]) {
-            return false;
-        }
-    }
-    true
-}
-
-fn same_entry(x: &Entry, y: &Entry) -> bool
-    ensures { IsTrue result ↔ (ground_entry x.now ≡ ground_entry y.now) }
-{
-    x.prod.0 == y.prod.0 && same_terms(x.args.as_slice(), y.args.as_slice())
-}
-
-fn same_entries(xs: &[Entry], ys: &[Entry]) -> bool
-    ensures { IsTrue result ↔ (map ground_entry xs.now ≡ map ground_entry ys.now) }
-{
-    if xs.len() != ys.len() {
-        return false;
-    }
-    for i in 0..xs.len() {
-        if !same_entry(&xs[i], &ys[i]) {
             return false;
         }
     }

@@ -1,43 +1,13 @@
 // Which metavariables inputs settle.
 ghost use Rattle.std.specs.Prelude.{◌↔◌, IsTrue, map};
-ghost use Rattle.binding_terms.specs.Numbered.{AnyByRecursion};
-ghost use Rattle.scheme_terms.specs.SchemeTree.{StrictIn, values};
-ghost use Rattle.scheme_terms.specs.View.{scheme, scheme_entry, scheme_parts};
-ghost use Rattle.rule_schemes.specs.View.{judgment_scheme, statement_input};
-ghost use Rattle.rule_schemes.specs.Rules.{StrictInEntries, StrictInJudgment};
+ghost use Rattle.scheme_terms.specs.SchemeTree.{values};
+ghost use Rattle.scheme_terms.specs.View.{scheme, scheme_parts};
+ghost use Rattle.rule_schemes.specs.View.{statement_input};
 ghost use Rattle.rule_schemes.specs.Statement.{StrictInInput};
 ghost use Rattle.derivation_check.specs.Fitting.{IsSettled, AreSettled, ValuesSettled, PartsSettled};
 
-use rule_schemes::{Input, JScheme};
-use scheme_terms::{MetaId, SArg, SEntry, Scheme, strict_in};
-
-fn strict_in_any(m: MetaId, schemes: &[Scheme]) -> bool
-    ensures { IsTrue result ↔ AnyByRecursion (StrictIn m.0) (map scheme schemes.now) }
-{
-    for s in schemes {
-        if strict_in(m, s) {
-            return true;
-        }
-    }
-    false
-}
-
-fn strict_in_entries(m: MetaId, entries: &[SEntry]) -> bool
-    ensures { IsTrue result ↔ StrictInEntries m.0 (map scheme_entry entries.now) }
-{
-    for entry in entries {
-        if strict_in_any(m, entry.args.as_slice()) {
-            return true;
-        }
-    }
-    false
-}
-
-fn strict_in_judgment(m: MetaId, j: &JScheme) -> bool
-    ensures { IsTrue result ↔ StrictInJudgment m.0 (judgment_scheme j.now) }
-{
-    strict_in_entries(m, j.ctx.entries.as_slice()) || strict_in_any(m, j.args.as_slice())
-}
+use rule_schemes::{Input, strict_in_judgment};
+use scheme_terms::{MetaId, SArg, Scheme};
 
 fn strict_in_input(m: MetaId, input: &Input) -> bool
     ensures { IsTrue result ↔ StrictInInput m.0 (statement_input input.now) }

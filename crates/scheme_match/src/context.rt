@@ -29,6 +29,7 @@ fn same_entry(x: &Entry, y: &Entry) -> bool
     x.prod.0 == y.prod.0 && same_terms(x.args.as_slice(), y.args.as_slice())
 }
 
+/// Whether the entries are the same, place by place.
 pub fn same_entries(xs: &[Entry], ys: &[Entry]) -> bool
     ensures { IsTrue result ↔ (map ground_entry xs.now ≡ map ground_entry ys.now) }
 {

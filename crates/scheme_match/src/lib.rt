@@ -7,4 +7,5 @@ mod equal;
 mod matcher;
 mod pair;
 
+pub use context::{copy_context, same_entries};
 pub use matcher::Matcher;
