@@ -169,16 +169,17 @@ no_front_form known ts form after found none a rest h =
     let closed = front_closes known ts a rest h in
     none (subst IsForm (closes_once 0 ts closed.0 form rest after closed.3 found).0 closed.2)
 
-pub front_once : (known : List Named) (ts : List Read) (a b : Argument) (r s : List Read) → IsFront known ts a r → IsFront known ts b s → (a ≡ b) × (r ≡ s)
-front_once known ts (by_name w) (by_name v) r s h k =
-    let whole = sym h.tokens_are ∙ k.tokens_are in
-    (ap (λ (t : Read). by_name t.1) (cons_head whole), cons_tail whole)
-front_once known ts (by_name w) (enclosed g) r s h k = absurd (kinds w (40 ∷ []) (cons_head (sym h.tokens_are ∙ k.tokens_are)))
-front_once known ts (enclosed f) (by_name v) r s h k = absurd (kinds v (40 ∷ []) (sym (cons_head (sym h.tokens_are ∙ k.tokens_are))))
-front_once known ts (enclosed f) (enclosed g) r s h k =
-    let whole = cons_tail (sym h.tokens_are ∙ k.tokens_are) in
-    let once = balanced_once 0 f g r s (sym (append_assoc f (punctuation 41 ∷ []) r) ∙ whole ∙ append_assoc g (punctuation 41 ∷ []) s) h.is_argument.1 k.is_argument.1 in
+-- an argument and what follows it, from their tokens
+pub argument_once : (a b : Argument) (r s : List Read) → IsArgument a → IsArgument b → argument_tokens a ++ r ≡ argument_tokens b ++ s → (a ≡ b) × (r ≡ s)
+argument_once (by_name w) (by_name v) r s h k whole = (ap (λ (t : Read). by_name t.1) (cons_head whole), cons_tail whole)
+argument_once (by_name w) (enclosed g) r s h k whole = absurd (kinds w (40 ∷ []) (cons_head whole))
+argument_once (enclosed f) (by_name v) r s h k whole = absurd (kinds v (40 ∷ []) (sym (cons_head whole)))
+argument_once (enclosed f) (enclosed g) r s h k whole =
+    let once = balanced_once 0 f g r s (sym (append_assoc f (punctuation 41 ∷ []) r) ∙ cons_tail whole ∙ append_assoc g (punctuation 41 ∷ []) s) h.1 k.1 in
     (ap enclosed once.0, once.1)
+
+pub front_once : (known : List Named) (ts : List Read) (a b : Argument) (r s : List Read) → IsFront known ts a r → IsFront known ts b s → (a ≡ b) × (r ≡ s)
+front_once known ts a b r s h k = argument_once a b r s h.is_argument k.is_argument (sym h.tokens_are ∙ k.tokens_are)
 
 first_argument : (known : List Named) (ts : List Read) (t : Read) (all : List Argument) → IsRest known (t ∷ ts) all
     → (a : Argument) × (more : List Argument) × (all ≡ a ∷ more) × (t ≡ punctuation 44) × IsFront known ts a (further_arguments more) × AllByRecursion IsArgument more × AllByRecursion (IsKnownArgument known) more

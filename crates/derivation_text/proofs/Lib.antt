@@ -15,3 +15,5 @@ pub mod ReaderLemmas
 pub mod InputLemmas
 pub mod OnlyOne
 pub mod Chains
+pub mod OverLemmas
+pub mod FaultLemmas

@@ -28,7 +28,7 @@ rest_once known ts (a ∷ more) (b ∷ bs) h k =
     (record { tokens_are = once.1; are_arguments = k.are_arguments.1; are_known = k.are_known.1 }) in
     λ i. once.0 i ∷ rest i
 
-no_argument : (a : Argument) (rest : List Token) → [] ≡ argument_tokens a ++ rest → ⊥
+pub no_argument : (a : Argument) (rest : List Token) → [] ≡ argument_tokens a ++ rest → ⊥
 no_argument (by_name w) rest e = (let h : [] ≡ word w ∷ rest = e in cc)
 no_argument (enclosed form) rest e = (let h : [] ≡ punctuation 40 ∷ ((form ++ punctuation 41 ∷ []) ++ rest) = e in cc)
 
@@ -53,7 +53,7 @@ further_once (w ∷ ws) (v ∷ vs) e =
     let rest = further_once ws vs (cons_tail (cons_tail e)) in
     λ i. first i ∷ rest i
 
-names_tokens_once : (ws vs : List (List ℕ)) → names_tokens ws ≡ names_tokens vs → ws ≡ vs
+pub names_tokens_once : (ws vs : List (List ℕ)) → names_tokens ws ≡ names_tokens vs → ws ≡ vs
 names_tokens_once [] [] e = refl
 names_tokens_once [] (v ∷ vs) e = absurd (cc)
 names_tokens_once (w ∷ ws) [] e = absurd (cc)

@@ -39,7 +39,7 @@ use Rattle.binding_terms.proofs.Lists.{all_push, cons_head, some_once}
 abbrev pub Reaches : Theory → List Line → List Named → List Line → Type 0
 Reaches th all known rest = (c : Contents) → AreValid th nothing_around [] all c ↔ AreValid th nothing_around known rest c
 
-not_own : (w : List ℕ) → is_among (CONTEXT ∷ APPLY ∷ GIVES ∷ []) w ≡ true → IsTrue (is_own_name w) → ⊥
+pub not_own : (w : List ℕ) → is_among (CONTEXT ∷ APPLY ∷ GIVES ∷ []) w ≡ true → IsTrue (is_own_name w) → ⊥
 unfolding is_own_name
 not_own w among h = absurd (true≢false (sym (and_right (is_name w) (not (is_among (CONTEXT ∷ APPLY ∷ GIVES ∷ []) w)) h) ∙ ap not among))
 
@@ -135,7 +135,7 @@ pub text_of_lines : (th : Theory) (source : List ℕ) (tokens : List PlainToken)
 text_of_lines th source tokens c are valid =
     record { tokens = tokens; are_tokens = are; lines = record { rest = text_lines tokens; begins = without_context (text_lines tokens); valid = valid } }
 
-lines_of : (th : Theory) → HasNoContexts th → (lines rest : List Line) (around : Around) (c : Contents) → Begins th lines around rest → AreValid th around [] rest c
+pub lines_of : (th : Theory) → HasNoContexts th → (lines rest : List Line) (around : Around) (c : Contents) → Begins th lines around rest → AreValid th around [] rest c
     → (around ≡ nothing_around) × AreValid th nothing_around [] lines c
 lines_of th bare lines rest around c (without_context same) v = (refl, v)
 lines_of th bare lines rest around c (with_context line other more gives) v = absurd (no_context_line th line.1 other bare gives)

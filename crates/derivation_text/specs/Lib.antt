@@ -1,6 +1,7 @@
 pub mod Bare
 pub mod Contents
 pub mod Ending
+pub mod Fault
 pub mod Forms
 pub mod Found
 pub mod Given
@@ -8,8 +9,11 @@ pub mod Inputs
 pub mod Laws
 pub mod Lines
 pub mod Making
+pub mod Over
 pub mod Page
+pub mod Printed
 pub mod Reader
+pub mod Shown
 pub mod Splitting
 pub mod Text
 pub mod Valid

@@ -27,6 +27,6 @@ mod worked;
 pub use derivation::print_derivs;
 pub use derivs::{Argument, Derivs, Ending, Kept, Named};
 pub use judgment::print_judgment;
-pub use laws::{inputs_are_unique, texts_are_unique};
+pub use laws::{inputs_are_unique, texts_are_unique, valid_lines_have_no_fault, values_are_given};
 pub use reader::read_derivs;
 pub use worked::{binders_are_written, chain_is_derived, contexts_are_written, sums_are_written};
