@@ -93,7 +93,7 @@ slot_law sig metas vars own words c binds items alt p first rest xs ys zs some f
     first_same IsBefore before_transitive _ _ zs (slot_same sig metas vars own words c binds items alt p first rest some)
     (first_behind (length first) (length binds) _ _ xs ys zs (has_parts sig metas vars own words items alt p rest) f g h)
 
-fewer_same : (n : ℕ) (w : Way) → TakesFewer n w ⊎ TakesFirst n w ↔ TakesFewer (n + 1) w
+pub fewer_same : (n : ℕ) (w : Way) → TakesFewer n w ⊎ TakesFirst n w ↔ TakesFewer (n + 1) w
 fewer_same n (way a [] ws) = (λ h. elim h [ inl k ↦ k | inr k ↦ k ], λ h. inl h)
 fewer_same n (way a (m ∷ ls) ws) = (λ h. elim h [ inl k ↦ omega arith | inr k ↦ omega (arith, k) ], λ h. one_of m n h)
   where

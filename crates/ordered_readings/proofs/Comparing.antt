@@ -105,7 +105,7 @@ module _ {sig : Signature} {metas : List MetaDecl} where
             let same : prod ≡ other = cc in
             ap (λ (x : Prod). x.items) same
 
-    brackets_compare : {vars us : List Variable} {ps os : List ℕ} {ts rs : List Token} {xs ys : Values}
+    pub brackets_compare : {vars us : List Variable} {ps os : List ℕ} {ts rs : List Token} {xs ys : Values}
         → (r : ReadsBrackets sig metas vars ps ts xs) (q : ReadsBrackets sig metas us os rs ys) → ts ≡ rs
         → SlotsCompared (bracket_lengths r) (ways_of_brackets r) (bracket_lengths q) (ways_of_brackets q)
     brackets_compare no_brackets no_brackets e = no_slots
@@ -116,7 +116,7 @@ module _ {sig : Signature} {metas : List MetaDecl} where
         let same : rest ≡ other = cc in
         arguments_compare r q same
 
-    arguments_compare : {vars us : List Variable} {ps os : List ℕ} {ts rs : List Token} {xs ys : Values}
+    pub arguments_compare : {vars us : List Variable} {ps os : List ℕ} {ts rs : List Token} {xs ys : Values}
         → (r : ReadsArguments sig metas vars ps ts xs) (q : ReadsArguments sig metas us os rs ys) → ts ≡ rs
         → SlotsCompared (argument_lengths r) (ways_of_arguments r) (argument_lengths q) (ways_of_arguments q)
     arguments_compare (one_more {first = first} {rest = rest} f t r) (one_more {first = begins} {rest = other} g u q) e =

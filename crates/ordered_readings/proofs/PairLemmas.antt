@@ -38,7 +38,7 @@ HasParts (con p xs) = Unit {0}
 HasParts _ = ⊥
 
 -- what has parts tells what was put before it
-with_first_apart : (m : ℕ) (s t a b : SchemeTree) → HasParts a → HasParts b → with_first m s a ≡ with_first m t b → (s ≡ t) × (a ≡ b)
+pub with_first_apart : (m : ℕ) (s t a b : SchemeTree) → HasParts a → HasParts b → with_first m s a ≡ with_first m t b → (s ≡ t) × (a ≡ b)
 with_first_apart m s t (con p xs) (con q ys) h k e =
     let number : p ≡ q = cc in
     let first : s ≡ t = cc in

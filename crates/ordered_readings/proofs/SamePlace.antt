@@ -12,8 +12,8 @@ use Rattle.scheme_terms.specs.declared.scheme.MetaDecl.{MetaDecl}
 use Rattle.rule_schemes.specs.Reading.{Token, word, punctuation, Variable, Means, counted, variables_of, slot_variables, ReadsTerm, group, metavariable, variable, production, ReadsBrackets, no_brackets, brackets, ReadsArguments, one_more, last_one, ReadsItems, all_read, terminal, binder, slot}
 use Rattle.rule_schemes.specs.Said.{IsBefore, Way, way, Ways, way_of_term, bracket_lengths, ways_of_brackets, argument_lengths, ways_of_arguments, item_lengths, ways_of_items}
 use Rattle.ordered_readings.specs.Names.{NamesApart}
-use Rattle.ordered_readings.specs.Laws.{OrderLaw, RowLaw}
-use Rattle.ordered_readings.proofs.Comparing.{Compared, slots_tell, comma_is_no_bracket, terms_compare, items_compare}
+use Rattle.ordered_readings.specs.Laws.{OrderLaw, RowLaw, BracketLaw, ArgumentLaw}
+use Rattle.ordered_readings.proofs.Comparing.{Compared, SlotsCompared, slots_tell, comma_is_no_bracket, terms_compare, brackets_compare, arguments_compare, items_compare}
 
 abbrev pub alternative : Way → ℕ
 alternative (way a ls ws) = a
@@ -30,7 +30,7 @@ no_other_name m (x ∷ ms) zero d h e same = let one : x ≡ d = cc in absurd (h
 no_other_name m (x ∷ ms) (suc n) d h e same = no_other_name m ms n d h.1 e same
 
 -- a name tells the metavariable
-name_tells : (ms : List MetaDecl) (m n : ℕ) (d e : MetaDecl) → NamesApart ms → slice_get ms m ≡ Some d → slice_get ms n ≡ Some e → d.name ≡ e.name → (m ≡ n) × (d ≡ e)
+pub name_tells : (ms : List MetaDecl) (m n : ℕ) (d e : MetaDecl) → NamesApart ms → slice_get ms m ≡ Some d → slice_get ms n ≡ Some e → d.name ≡ e.name → (m ≡ n) × (d ≡ e)
 name_tells [] m n d e apart f g same = cc
 name_tells (x ∷ ms) zero zero d e apart f g same = let both : Some d ≡ Some e = sym f ∙ g in let one : d ≡ e = cc in (refl, one)
 name_tells (x ∷ ms) zero (suc n) d e apart f g same =
@@ -132,7 +132,7 @@ module _ {sig : Signature} {metas : List MetaDecl} where
           let own = ap (λ is. variables_of xs (binders is)) items ∙ ap (λ ws. variables_of ws (binders other.items)) words in
           ap (λ x. con x fronts) number ∙ ap (con o) (same_items r q v own items e (ap lengths w) (ap inner w))
 
-      same_brackets : {vars us : List Variable} {ps os : List ℕ} {ts rs : List Token} {xs ys : Values}
+      pub same_brackets : {vars us : List Variable} {ps os : List ℕ} {ts rs : List Token} {xs ys : Values}
           → (r : ReadsBrackets sig metas vars ps ts xs) (q : ReadsBrackets sig metas us os rs ys) → vars ≡ us → ps ≡ os → ts ≡ rs
           → bracket_lengths r ≡ bracket_lengths q → ways_of_brackets r ≡ ways_of_brackets q → xs ≡ ys
       same_brackets no_brackets no_brackets v p e l w = refl
@@ -143,7 +143,7 @@ module _ {sig : Signature} {metas : List MetaDecl} where
           let same : rest ≡ other = cc in
           same_arguments r q v p same l w
 
-      same_arguments : {vars us : List Variable} {ps os : List ℕ} {ts rs : List Token} {xs ys : Values}
+      pub same_arguments : {vars us : List Variable} {ps os : List ℕ} {ts rs : List Token} {xs ys : Values}
           → (r : ReadsArguments sig metas vars ps ts xs) (q : ReadsArguments sig metas us os rs ys) → vars ≡ us → ps ≡ os → ts ≡ rs
           → argument_lengths r ≡ argument_lengths q → ways_of_arguments r ≡ ways_of_arguments q → xs ≡ ys
       same_arguments (one_more {p = a} {params = ps} {first = first} {rest = rest} {s = s} {vs = xs} f t r) (one_more {p = b} {params = os} {first = begins} {rest = other} {s = z} {vs = ys} g u q) v p e l w =
@@ -221,18 +221,26 @@ order_law sig metas vars cat tokens v w s t apart r q = elim (terms_compare r.0 
   ]
 ]
 
+-- so for slots whose lengths and places tell what is made of them
+module _ {A : Type 0} (a : ℕ) (build : A → SchemeTree) (v w : Way) (s t : SchemeTree) (ls ks : List ℕ) (ws vs : Ways) (xs ys : A)
+    (e : v ≡ way a ls ws) (g : w ≡ way a ks vs) (f : s ≡ build xs) (h : t ≡ build ys) (same : ls ≡ ks → ws ≡ vs → xs ≡ ys)
+  where
+    pub slots_ordered : Compared IsBefore (way a ls ws) (way a ks vs) → IsBefore v w ⊎ (((v ≡ w) × (s ≡ t)) ⊎ IsBefore w v)
+    slots_ordered (inl b) = inl (subst (λ x. IsBefore x w) (sym e) (subst (IsBefore (way a ls ws)) (sym g) b))
+    slots_ordered (inr (inl one)) = inr (inl (e ∙ one ∙ sym g, f ∙ ap build (same (ap lengths one) (ap inner one)) ∙ sym h))
+    slots_ordered (inr (inr b)) = inr (inr (subst (λ x. IsBefore x v) (sym g) (subst (IsBefore (way a ks vs)) (sym e) b)))
+
 pub row_law : RowLaw
 row_law sig metas vars own words items a p tokens v w s t apart (xs, r, e, f) (ys, q, g, h) =
-    go (slots_tell a (item_lengths r) (item_lengths q) (ways_of_items r) (ways_of_items q) (items_compare r q refl refl))
-  where
-    one : Way
-    one = way a (item_lengths r) (ways_of_items r)
+    slots_ordered a (con p) v w s t _ _ _ _ xs ys e g f h (λ ls ws. same_items apart r q refl refl refl refl ls ws)
+    (slots_tell a (item_lengths r) (item_lengths q) (ways_of_items r) (ways_of_items q) (items_compare r q refl refl))
 
-    other : Way
-    other = way a (item_lengths q) (ways_of_items q)
+pub bracket_law : BracketLaw
+bracket_law sig metas vars params m tokens v w s t apart (xs, r, e, f) (ys, q, g, h) =
+    slots_ordered 1 (meta m) v w s t _ _ _ _ xs ys e g f h (λ ls ws. same_brackets apart r q refl refl refl ls ws)
+    (slots_tell 1 (bracket_lengths r) (bracket_lengths q) (ways_of_brackets r) (ways_of_brackets q) (brackets_compare r q refl))
 
-    go : Compared IsBefore (way a (item_lengths r) (ways_of_items r)) (way a (item_lengths q) (ways_of_items q)) → IsBefore v w ⊎ (((v ≡ w) × (s ≡ t)) ⊎ IsBefore w v)
-    go (inl b) = inl (subst (λ x. IsBefore x w) (sym e) (subst (IsBefore one) (sym g) b))
-    go (inr (inl same)) =
-        inr (inl (e ∙ same ∙ sym g, f ∙ ap (con p) (same_items apart r q refl refl refl refl (ap lengths same) (ap inner same)) ∙ sym h))
-    go (inr (inr b)) = inr (inr (subst (λ x. IsBefore x v) (sym g) (subst (IsBefore other) (sym e) b)))
+pub argument_law : ArgumentLaw
+argument_law sig metas vars params m tokens v w s t apart (xs, r, e, f) (ys, q, g, h) =
+    slots_ordered 1 (meta m) v w s t _ _ _ _ xs ys e g f h (λ ls ws. same_arguments apart r q refl refl refl ls ws)
+    (slots_tell 1 (argument_lengths r) (argument_lengths q) (ways_of_arguments r) (ways_of_arguments q) (arguments_compare r q refl))

@@ -12,7 +12,7 @@ use Rattle.rule_schemes.specs.Said.{Way, IsBefore}
 use Rattle.ordered_readings.specs.FirstTwo.{pairs, AreFirst, AreFirstOf}
 use Rattle.ordered_readings.specs.AnswerView.{behind}
 use Rattle.ordered_readings.specs.Names.{NamesApart}
-use Rattle.ordered_readings.specs.Cells.{ReadsTermAt, ReadsItemsAt, TakesFirst, TakesFewer}
+use Rattle.ordered_readings.specs.Cells.{ReadsTermAt, ReadsItemsAt, ReadsBracketsAt, ReadsArgumentsAt, TakesFirst, TakesFewer}
 
 -- The first two readings of items whose first slot takes these tokens are the first two pairs of a reading of the slot, under the
 -- variables that it lists, and one of what stands behind it.
@@ -49,6 +49,19 @@ RowLaw =
     (sig : Signature) (metas : List MetaDecl) (vars own : List Variable) (words : List (List ℕ)) (items : List Item) (alternative p : ℕ)
     (tokens : List Token) (v w : Way) (s t : SchemeTree) → NamesApart metas
     → ReadsItemsAt sig metas vars own words items alternative p tokens v s → ReadsItemsAt sig metas vars own words items alternative p tokens w t
+    → IsBefore v w ⊎ (((v ≡ w) × (s ≡ t)) ⊎ IsBefore w v)
+
+-- and with two readings of the brackets, or of the arguments, of one metavariable
+abbrev pub BracketLaw : Type 0
+BracketLaw =
+    (sig : Signature) (metas : List MetaDecl) (vars : List Variable) (params : List ℕ) (number : ℕ) (tokens : List Token) (v w : Way) (s t : SchemeTree)
+    → NamesApart metas → ReadsBracketsAt sig metas vars params number tokens v s → ReadsBracketsAt sig metas vars params number tokens w t
+    → IsBefore v w ⊎ (((v ≡ w) × (s ≡ t)) ⊎ IsBefore w v)
+
+abbrev pub ArgumentLaw : Type 0
+ArgumentLaw =
+    (sig : Signature) (metas : List MetaDecl) (vars : List Variable) (params : List ℕ) (number : ℕ) (tokens : List Token) (v w : Way) (s t : SchemeTree)
+    → NamesApart metas → ReadsArgumentsAt sig metas vars params number tokens v s → ReadsArgumentsAt sig metas vars params number tokens w t
     → IsBefore v w ⊎ (((v ≡ w) × (s ≡ t)) ⊎ IsBefore w v)
 
 -- Two readings whose first slot takes fewer tokens are enough: they are the first two of those where it takes more, too.

@@ -9,7 +9,8 @@ mod schemes;
 
 pub use answers::{Answers, added, is_full, is_none, joined, share_answers};
 pub use laws::{
-    first_of_lengths, first_of_slot, readings_are_ordered, rows_are_ordered, two_are_enough,
+    arguments_are_ordered, brackets_are_ordered, first_of_lengths, first_of_slot,
+    readings_are_ordered, rows_are_ordered, two_are_enough,
 };
 pub use node::{Head, Node, Row, SlotCell, is_before, same_scheme, share, share_row, slot_before};
 pub use pairing::product;
