@@ -1,0 +1,9 @@
+pub mod Written
+pub mod Telling
+pub mod Read
+pub mod Placed
+pub mod FormFaults
+pub mod JudgmentFaults
+pub mod StatementFaults
+pub mod Phases
+pub mod Laws
