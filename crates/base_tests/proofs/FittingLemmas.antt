@@ -49,7 +49,6 @@ module _ (sig : Signature) (ns : Names) (two : length sig.prods ≡ 2) (constant
       let all : map equation eqs ≡ wanted p ∷ wanted q ∷ [] =
       ap (map equation) (h ∙ ap (λ es. es ++ b ∷ []) g) ∙ (λ i. ea i ∷ eb i ∷ []) in
       subst (AreToFitInto sig ns ns) (sym all) (record {
-        knowns = none;
         sides = (sides p l, (sides q k, tt));
         strict = numbered_one ns.metas (λ m decl. AnyByRecursion (λ e. StrictIn m e.left) (wanted p ∷ wanted q ∷ [])) one (λ m. inl (refl, tt));
       })
