@@ -54,3 +54,4 @@ pub mod TurnFalling
 pub mod Turning
 pub mod TurnInstances
 pub mod TypedSuits
+pub mod WorkedRuns

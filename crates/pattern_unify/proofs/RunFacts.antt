@@ -1,4 +1,4 @@
--- The worked answers of the written run, over the signature of `t ::= fn x => t[x] | x`.
+-- The runs of worked systems of equations.
 use Rattle.std.proofs.Common.{◌≡◌, ℕ, List, [], ◌∷◌, length, inl, inr, refl, ap, arith}
 use Rattle.std.specs.Prelude.{false, Some, codes, ◌<◌}
 use Rattle.binding_terms.specs.Signature.{Signature}
@@ -9,73 +9,24 @@ use Rattle.scheme_terms.specs.Forms.{Names, KnownVariable}
 use Rattle.scheme_terms.specs.declared.scheme.MetaDecl.{MetaDecl}
 use Rattle.scheme_terms.specs.declared.scheme.Root.TheVariants.{Closed}
 use Rattle.pattern_unify.specs.Equations.{SchemeEquation}
+use Rattle.pattern_unify.specs.Worked.{functions, name_with, one, two, over, function, bare, on, on_two, under_none, under_one, under_two, swapped, fewer, below_function, escaping, circular, no_pattern, nested, freeing}
 use Rattle.pattern_unify.specs.State.{State, names_of, start}
 use Rattle.pattern_unify.specs.Patterns.{over_parameters}
 use Rattle.pattern_unify.specs.Pruning.{HasOther}
 use Rattle.pattern_unify.specs.Measure.{measure, IsBelow}
 use Rattle.pattern_unify.specs.Moves.{Row, delete, decompose, clash, join, meet, prune, bind, Direction, left_first, right_first, Applies, Rests, place_in_table}
-use Rattle.pattern_unify.specs.Move.{goes_on, deletes, clashes, joins, meets, prunes, binds}
+use Rattle.pattern_unify.specs.Move.{goes_on, deletes, clashes, meets, prunes, binds}
 use Rattle.pattern_unify.specs.Run.{IsFirstMove, Turn, solved, clashed, Runs, is_solved, is_stuck, has_clash, turns, EndsStuck}
 
-abbrev pub category : ℕ → CatId
-category n = record { 0 = n }
-
--- t ::= fn x => t[x] | x
-abbrev pub functions : Signature
-functions =
-    record {
-      cats = record { name = codes "t"; var = Some (codes "x"); context = false } ∷ [];
-      prods =
-          record {
-            cat = category 0;
-            items = Word (codes "fn") false ∷ (Binder (category 0) ∷ (Word (codes "=>") false ∷ (Slot (category 0) (0 ∷ []) ∷ [])));
-          }
-          ∷ [];
-    }
-
--- a metavariable with so many parameters
-abbrev pub name_with : List CatId → MetaDecl
-name_with ps = record { name = codes "t"; cat = category 0; params = ps }
-
-abbrev pub one : List CatId
-one = category 0 ∷ []
-
-abbrev pub two : List CatId
-two = category 0 ∷ one
-
-abbrev pub over : List MetaDecl → Names
-over metas = record { root = Closed; metas = metas; knowns = [] }
-
-abbrev pub fn : SchemeTree → SchemeTree
-fn s = con 0 (part 1 s no_parts)
-
-abbrev pub bare : ℕ → SchemeTree
-bare m = meta m no_values
-
-abbrev pub on : ℕ → SchemeTree → SchemeTree
-on m s = meta m (value s no_values)
-
-abbrev pub on_two : ℕ → SchemeTree → SchemeTree → SchemeTree
-on_two m s t = meta m (value s (value t no_values))
-
-abbrev pub under_two : SchemeTree → SchemeTree → SchemeEquation
-under_two s t = record { locals = 0 ∷ (0 ∷ []); left = s; right = t }
-
-abbrev pub under_one : SchemeTree → SchemeTree → SchemeEquation
-under_one s t = record { locals = 0 ∷ []; left = s; right = t }
-
-abbrev pub under_none : SchemeTree → SchemeTree → SchemeEquation
-under_none s t = record { locals = []; left = s; right = t }
-
 -- the number at the head of a scheme
-abbrev head_number : SchemeTree → ℕ
+abbrev pub head_number : SchemeTree → ℕ
 head_number (meta m vs) = m
 head_number (known k) = k
 head_number (local i) = i
 head_number (con p xs) = p
 
 -- which kind of scheme it is
-abbrev kind : SchemeTree → ℕ
+abbrev pub kind : SchemeTree → ℕ
 kind (meta m vs) = 0
 kind (known k) = 1
 kind (local i) = 2
@@ -88,10 +39,10 @@ first_value _ = 0
 pub other_local : {i j : ℕ} → (i ≡ j → ⊥) → local i ≡ local j → ⊥
 other_local h e = h (ap head_number e)
 
-zero_not_one : ◌≡◌ {A = ℕ} 0 1 → ⊥
+pub zero_not_one : ◌≡◌ {A = ℕ} 0 1 → ⊥
 zero_not_one h = omega (arith, h)
 
-one_not_zero : ◌≡◌ {A = ℕ} 1 0 → ⊥
+pub one_not_zero : ◌≡◌ {A = ℕ} 1 0 → ⊥
 one_not_zero h = omega (arith, h)
 
 -- an equation of equal sides is deleted
@@ -102,20 +53,16 @@ delete_first e same =
 abbrev pub equal_locals : (ls : List ℕ) → ℕ → SchemeEquation
 equal_locals ls i = record { locals = ls; left = local i; right = local i }
 
--- t[x] = x': the local x' is not the pattern's
-abbrev clash_equation : SchemeEquation
-clash_equation = under_two (on 0 (local 1)) (local 0)
-
-clash_applies : Applies (over (name_with one ∷ [])) clash left_first clash_equation
+clash_applies : Applies (over (name_with one ∷ [])) clash left_first escaping
 clash_applies = inr (((tt, tt), inr (omega arith, λ among. elim among [ inl e ↦ other_local one_not_zero e | inr h ↦ h ])))
 
 -- a row that applies to no equation of two locals, or of a pattern and a local, comes to nothing
-pub clash_answer : Runs functions (start (over (name_with one ∷ [])) (clash_equation ∷ [])) clashed
+pub clash_answer : Runs functions (start (over (name_with one ∷ [])) (escaping ∷ [])) clashed
 clash_answer =
     has_clash _
     (record {
       before = [];
-      e = clash_equation;
+      e = escaping;
       rest = [];
       row = clash;
       direction = left_first;
@@ -125,7 +72,7 @@ clash_answer =
       moves = clashes clash_applies refl;
     })
   where
-    earlier : (other : Row) (way : Direction) → place_in_table other < 2 → Applies (over (name_with one ∷ [])) other way clash_equation → ⊥
+    earlier : (other : Row) (way : Direction) → place_in_table other < 2 → Applies (over (name_with one ∷ [])) other way escaping → ⊥
     earlier delete left_first less h = absurd (omega (arith, ap kind h))
     earlier delete right_first less h = absurd (omega (arith, ap kind h))
     earlier decompose left_first less h = h
@@ -136,19 +83,15 @@ clash_answer =
     earlier prune way less h = absurd (omega (arith, less))
     earlier bind way less h = absurd (omega (arith, less))
 
--- t = fn x => t: the metavariable stands rigidly below a production
-abbrev occurs_equation : SchemeEquation
-occurs_equation = under_none (bare 0) (fn (bare 0))
-
-occurs_applies : Applies (over (name_with [] ∷ [])) clash left_first occurs_equation
+occurs_applies : Applies (over (name_with [] ∷ [])) clash left_first circular
 occurs_applies = inr ((tt, inl (inl refl)))
 
-pub occurs_answer : Runs functions (start (over (name_with [] ∷ [])) (occurs_equation ∷ [])) clashed
+pub occurs_answer : Runs functions (start (over (name_with [] ∷ [])) (circular ∷ [])) clashed
 occurs_answer =
     has_clash _
     (record {
       before = [];
-      e = occurs_equation;
+      e = circular;
       rest = [];
       row = clash;
       direction = left_first;
@@ -158,7 +101,7 @@ occurs_answer =
       moves = clashes occurs_applies refl;
     })
   where
-    earlier : (other : Row) (way : Direction) → place_in_table other < 2 → Applies (over (name_with [] ∷ [])) other way occurs_equation → ⊥
+    earlier : (other : Row) (way : Direction) → place_in_table other < 2 → Applies (over (name_with [] ∷ [])) other way circular → ⊥
     earlier delete left_first less h = absurd (omega (arith, ap kind h))
     earlier delete right_first less h = absurd (omega (arith, ap kind h))
     earlier decompose left_first less h = h
@@ -169,33 +112,29 @@ occurs_answer =
     earlier prune way less h = absurd (omega (arith, less))
     earlier bind way less h = absurd (omega (arith, less))
 
--- t1[t2] = fn x => x: no move applies
-abbrev stuck_equation : SchemeEquation
-stuck_equation = under_none (on 0 (bare 1)) (fn (local 0))
+pub stuck_rests : (names : Names) (m : ℕ) → Rests names (under_none (on m (bare 1)) (function (local 0)))
+stuck_rests names m delete left_first h = absurd (omega (arith, ap kind h))
+stuck_rests names m delete right_first h = absurd (omega (arith, ap kind h))
+stuck_rests names m decompose left_first h = h
+stuck_rests names m decompose right_first h = h
+stuck_rests names m clash left_first (inl h) = h
+stuck_rests names m clash left_first (inr h) = h.0
+stuck_rests names m clash right_first (inl h) = h
+stuck_rests names m clash right_first (inr h) = h
+stuck_rests names m join left_first h = h
+stuck_rests names m join right_first h = h
+stuck_rests names m meet left_first h = h
+stuck_rests names m meet right_first h = h
+stuck_rests names m prune left_first h = h.0
+stuck_rests names m prune right_first h = h
+stuck_rests names m bind left_first h = h.0
+stuck_rests names m bind right_first h = h
 
-stuck_rests : (names : Names) → Rests names stuck_equation
-stuck_rests names delete left_first h = absurd (omega (arith, ap kind h))
-stuck_rests names delete right_first h = absurd (omega (arith, ap kind h))
-stuck_rests names decompose left_first h = h
-stuck_rests names decompose right_first h = h
-stuck_rests names clash left_first (inl h) = h
-stuck_rests names clash left_first (inr h) = h.0
-stuck_rests names clash right_first (inl h) = h
-stuck_rests names clash right_first (inr h) = h
-stuck_rests names join left_first h = h
-stuck_rests names join right_first h = h
-stuck_rests names meet left_first h = h
-stuck_rests names meet right_first h = h
-stuck_rests names prune left_first h = h.0
-stuck_rests names prune right_first h = h
-stuck_rests names bind left_first h = h.0
-stuck_rests names bind right_first h = h
-
-pub stuck_answer : EndsStuck functions (over (name_with one ∷ (name_with [] ∷ []))) (stuck_equation ∷ []) (stuck_equation ∷ [])
+pub stuck_answer : EndsStuck functions (over (name_with one ∷ (name_with [] ∷ []))) (no_pattern ∷ []) (no_pattern ∷ [])
 stuck_answer =
     record {
-      st = start (over (name_with one ∷ (name_with [] ∷ []))) (stuck_equation ∷ []);
-      runs = is_stuck _ (λ h. absurd (omega (arith, ap length h)), (stuck_rests (over (name_with one ∷ (name_with [] ∷ []))), tt));
+      st = start (over (name_with one ∷ (name_with [] ∷ []))) (no_pattern ∷ []);
+      runs = is_stuck _ (λ h. absurd (omega (arith, ap length h)), (stuck_rests (over (name_with one ∷ (name_with [] ∷ []))) 0, tt));
       same = refl;
     }
 
@@ -204,7 +143,7 @@ pub no_equation : Runs functions (start (over (name_with two ∷ [])) []) (solve
 no_equation = is_solved _ refl
 
 -- the turn that deletes the first equation
-abbrev without : SchemeEquation → List SchemeEquation → State → State
+abbrev pub without : SchemeEquation → List SchemeEquation → State → State
 without e rest st = record { equations = rest; so_far = st.so_far }
 
 pub delete_turn : {sig : Signature} (st : State) (e : SchemeEquation) (rest : List SchemeEquation) → st.equations ≡ e ∷ rest → e.left ≡ e.right →
@@ -222,12 +161,8 @@ delete_turn st e rest at same =
       moves = deletes same refl;
     }
 
--- t[x, x'] = t[x', x]: a meet, and then a delete
-abbrev meet_equation : SchemeEquation
-meet_equation = under_two (on_two 0 (local 1) (local 0)) (on_two 0 (local 0) (local 1))
-
 abbrev meet_start : State
-meet_start = start (over (name_with two ∷ [])) (meet_equation ∷ [])
+meet_start = start (over (name_with two ∷ [])) (swapped ∷ [])
 
 -- after the meet both sides are the new metavariable, which has no parameter
 abbrev met : State
@@ -237,20 +172,20 @@ met =
       so_far = record { metas = bare 1 ∷ []; knowns = []; into = over (name_with two ∷ (name_with [] ∷ [])) };
     }
 
-distinct_two : AreDistinctLocals (value (local 1) (value (local 0) no_values))
+pub distinct_two : AreDistinctLocals (value (local 1) (value (local 0) no_values))
 distinct_two = ((other_local zero_not_one, tt), (tt, tt))
 
 distinct_swapped : AreDistinctLocals (value (local 0) (value (local 1) no_values))
 distinct_swapped = ((other_local one_not_zero, tt), (tt, tt))
 
-meet_applies : Applies (names_of meet_start) meet left_first meet_equation
+meet_applies : Applies (names_of meet_start) meet left_first swapped
 meet_applies = (refl, distinct_two, distinct_swapped)
 
 meet_turn : Turn functions meet_start (goes_on met)
 meet_turn =
     record {
       before = [];
-      e = meet_equation;
+      e = swapped;
       rest = [];
       row = meet;
       direction = left_first;
@@ -260,7 +195,7 @@ meet_turn =
       moves = meets 0 _ _ (name_with two) refl refl refl meet_applies refl;
     }
   where
-    earlier : (other : Row) (way : Direction) → place_in_table other < 4 → Applies (names_of meet_start) other way meet_equation → ⊥
+    earlier : (other : Row) (way : Direction) → place_in_table other < 4 → Applies (names_of meet_start) other way swapped → ⊥
     earlier delete left_first less h = absurd (omega (arith, ap first_value h))
     earlier delete right_first less h = absurd (omega (arith, ap first_value h))
     earlier decompose left_first less h = h
@@ -279,15 +214,8 @@ meet_turn =
 pub meet_answer : Runs functions meet_start (solved (without (under_two (bare 1) (bare 1)) [] met))
 meet_answer = turns _ _ _ meet_turn (turns _ _ _ (delete_turn met _ [] refl refl) (is_solved _ refl))
 
--- t1[t2[x]] = x and then t2[x] = x: the second equation is bound first, and that frees the first one
-abbrev nested : SchemeEquation
-nested = under_one (on 0 (on 1 (local 0))) (local 0)
-
-abbrev plain : SchemeEquation
-plain = under_one (on 1 (local 0)) (local 0)
-
 abbrev freed_start : State
-freed_start = start (over (name_with one ∷ (name_with one ∷ []))) (nested ∷ (plain ∷ []))
+freed_start = start (over (name_with one ∷ (name_with one ∷ []))) (nested ∷ (freeing ∷ []))
 
 nested_rests : (names : Names) → Rests names nested
 nested_rests names delete left_first h = absurd (omega (arith, ap kind h))
@@ -350,7 +278,7 @@ first_bind : Turn functions freed_start (goes_on after_first)
 first_bind =
     record {
       before = nested ∷ [];
-      e = plain;
+      e = freeing;
       rest = [];
       row = bind;
       direction = left_first;
@@ -381,12 +309,8 @@ freed_answer =
     (turns _ _ _ second_bind
     (turns _ _ _ (delete_turn after_second _ _ refl refl) (turns _ _ _ (delete_turn _ _ [] refl refl) (is_solved _ refl))))
 
--- t1[x] = t2[x, x']: t2 is pruned to its first parameter, and then t1 becomes the same
-abbrev prune_equation : SchemeEquation
-prune_equation = under_two (on 0 (local 1)) (on_two 1 (local 1) (local 0))
-
 abbrev prune_start : State
-prune_start = start (over (name_with one ∷ (name_with two ∷ []))) (prune_equation ∷ [])
+prune_start = start (over (name_with one ∷ (name_with two ∷ []))) (fewer ∷ [])
 
 abbrev pruned_names : Names
 pruned_names = over (name_with one ∷ (name_with two ∷ (name_with one ∷ [])))
@@ -408,14 +332,14 @@ bound_after_prune =
       so_far = record { metas = on 2 (local 0) ∷ (on 2 (local 1) ∷ []); knowns = []; into = pruned_names };
     }
 
-prune_applies : Applies (names_of prune_start) prune left_first prune_equation
+prune_applies : Applies (names_of prune_start) prune left_first fewer
 prune_applies = ((tt, tt), (one_not_zero, distinct_two, inr (inl (omega arith, λ among. elim among [ inl e ↦ other_local one_not_zero e | inr h ↦ h ]))))
 
 prune_turn : Turn functions prune_start (goes_on pruned)
 prune_turn =
     record {
       before = [];
-      e = prune_equation;
+      e = fewer;
       rest = [];
       row = prune;
       direction = left_first;
@@ -425,7 +349,7 @@ prune_turn =
       moves = prunes 0 1 _ _ (name_with two) refl prune_applies (prune_applies.1, refl, refl) refl refl;
     }
   where
-    earlier : (other : Row) (way : Direction) → place_in_table other < 5 → Applies (names_of prune_start) other way prune_equation → ⊥
+    earlier : (other : Row) (way : Direction) → place_in_table other < 5 → Applies (names_of prune_start) other way fewer → ⊥
     earlier delete left_first less h = absurd (omega (arith, ap head_number h))
     earlier delete right_first less h = absurd (omega (arith, ap head_number h))
     earlier decompose left_first less h = h
@@ -495,33 +419,29 @@ pub meet_measure : measure meet_start ≡ record { metas = 3; knowns = 0; size =
 meet_measure = refl
 
 -- t1[x, x'] = fn x'' => t2[x'', x]: what t1 becomes over its parameters x and x'
-pub function_bound : over_parameters (value (local 1) (value (local 0) no_values)) (fn (on_two 1 (local 0) (local 2))) ≡ fn (on_two 1 (local 0) (local 2))
+pub function_bound : over_parameters (value (local 1) (value (local 0) no_values)) (function (on_two 1 (local 0) (local 2))) ≡ function (on_two 1 (local 0) (local 2))
 function_bound = refl
 
 -- what the arguments of a pattern become when the locals are the other way round
-pub function_turned : over_parameters (value (local 0) (value (local 1) no_values)) (fn (on_two 1 (local 0) (local 2))) ≡ fn (on_two 1 (local 0) (local 1))
+pub function_turned : over_parameters (value (local 0) (value (local 1) no_values)) (function (on_two 1 (local 0) (local 2))) ≡ function (on_two 1 (local 0) (local 1))
 function_turned = refl
 
--- t1[x, x'] = fn x'' => t2[x'', x]: t1 becomes the function over its parameters
-abbrev function_equation : SchemeEquation
-function_equation = under_two (on_two 0 (local 1) (local 0)) (fn (on_two 1 (local 0) (local 2)))
-
 abbrev function_start : State
-function_start = start (over (name_with two ∷ (name_with two ∷ []))) (function_equation ∷ [])
+function_start = start (over (name_with two ∷ (name_with two ∷ []))) (below_function ∷ [])
 
 abbrev function_result : State
 function_result =
     record {
-      equations = under_two (fn (on_two 1 (local 0) (local 2))) (fn (on_two 1 (local 0) (local 2))) ∷ [];
+      equations = under_two (function (on_two 1 (local 0) (local 2))) (function (on_two 1 (local 0) (local 2))) ∷ [];
       so_far =
           record {
-            metas = fn (on_two 1 (local 0) (local 2)) ∷ (on_two 1 (local 1) (local 0) ∷ []);
+            metas = function (on_two 1 (local 0) (local 2)) ∷ (on_two 1 (local 1) (local 0) ∷ []);
             knowns = [];
             into = over (name_with two ∷ (name_with two ∷ []));
           };
     }
 
-function_applies : Applies (names_of function_start) bind left_first function_equation
+function_applies : Applies (names_of function_start) bind left_first below_function
 function_applies = (
   distinct_two,
   λ h. elim h [
@@ -535,7 +455,7 @@ function_turn : Turn functions function_start (goes_on function_result)
 function_turn =
     record {
       before = [];
-      e = function_equation;
+      e = below_function;
       rest = [];
       row = bind;
       direction = left_first;
@@ -545,7 +465,7 @@ function_turn =
       moves = binds 0 _ refl function_applies refl;
     }
   where
-    earlier : (row : Row) (way : Direction) → place_in_table row < 6 → Applies (names_of function_start) row way function_equation → ⊥
+    earlier : (row : Row) (way : Direction) → place_in_table row < 6 → Applies (names_of function_start) row way below_function → ⊥
     earlier delete left_first less h = absurd (omega (arith, ap kind h))
     earlier delete right_first less h = absurd (omega (arith, ap kind h))
     earlier decompose left_first less h = h
@@ -569,67 +489,5 @@ function_turn =
     earlier bind way less h = absurd (omega (arith, less))
 
 pub function_answer : Runs functions function_start
-    (solved (without (under_two (fn (on_two 1 (local 0) (local 2))) (fn (on_two 1 (local 0) (local 2)))) [] function_result))
+    (solved (without (under_two (function (on_two 1 (local 0) (local 2))) (function (on_two 1 (local 0) (local 2)))) [] function_result))
 function_answer = turns _ _ _ function_turn (turns _ _ _ (delete_turn function_result _ [] refl refl) (is_solved _ refl))
-
--- two known variables with entries of one production are joined, and the entries' arguments are equated, the lower one's on the left
-abbrev entry_of : ℕ → SchemeTree → KnownVariable
-entry_of p s = record { name = codes "x"; entry = record { prod = p; args = s ∷ [] } }
-
-abbrev two_known : (second_prod : ℕ) → Names
-two_known p = record { root = Closed; metas = name_with [] ∷ (name_with [] ∷ []); knowns = entry_of 6 (bare 0) ∷ (entry_of p (bare 1) ∷ []) }
-
-abbrev join_equation : SchemeEquation
-join_equation = under_none (known 1) (known 0)
-
-abbrev join_start : State
-join_start = start (two_known 6) (join_equation ∷ [])
-
-abbrev joined_names : Names
-joined_names = two_known 6
-
-abbrev join_result : State
-join_result =
-    record {
-      equations = under_none (bare 0) (bare 1) ∷ [];
-      so_far = record { metas = bare 0 ∷ (bare 1 ∷ []); knowns = 0 ∷ (0 ∷ []); into = joined_names };
-    }
-
-join_applies : Applies (two_known 6) join left_first join_equation
-join_applies = (one_not_zero, refl)
-
-pub join_turn : Turn functions join_start (goes_on join_result)
-join_turn =
-    record {
-      before = [];
-      e = join_equation;
-      rest = [];
-      row = join;
-      direction = left_first;
-      at = refl;
-      rests = tt;
-      first = record { applies = join_applies; no_earlier = earlier; left = tt };
-      moves = joins 0 1 (omega arith) (inr (refl, refl)) join_applies refl;
-    }
-  where
-    earlier : (row : Row) (way : Direction) → place_in_table row < 3 → Applies (two_known 6) row way join_equation → ⊥
-    earlier delete left_first less h = absurd (omega (arith, ap head_number h))
-    earlier delete right_first less h = absurd (omega (arith, ap head_number h))
-    earlier decompose left_first less h = h
-    earlier decompose right_first less h = h
-    earlier clash left_first less (inl h) = h.1 refl
-    earlier clash left_first less (inr h) = h
-    earlier clash right_first less (inl h) = h.1 refl
-    earlier clash right_first less (inr h) = h
-    earlier join way less h = absurd (omega (arith, less))
-    earlier meet way less h = absurd (omega (arith, less))
-    earlier prune way less h = absurd (omega (arith, less))
-    earlier bind way less h = absurd (omega (arith, less))
-
--- entries of different productions clash
-pub other_entries_clash : Applies (two_known 7) clash left_first join_equation
-other_entries_clash = inl (one_not_zero, λ e. absurd (omega (arith, e)))
-
--- a join lowers the number of known variables that stand somewhere
-pub join_falls : IsBelow (measure join_result) (measure join_start)
-join_falls = inr (refl, inl (omega arith))

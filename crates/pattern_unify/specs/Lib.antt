@@ -21,3 +21,4 @@ pub mod Run
 pub mod State
 pub mod Stepped
 pub mod Turned
+pub mod Worked

@@ -17,6 +17,7 @@ mod steps;
 mod turns;
 mod unification;
 mod unified;
+pub mod worked;
 
 pub use equation::Equation;
 pub use fitting::fit_into;
