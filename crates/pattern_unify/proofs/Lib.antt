@@ -30,7 +30,6 @@ pub mod PatternRuns
 pub mod PatternsKept
 pub mod PickedLists
 pub mod Places
-pub mod PlainRuns
 pub mod PlainSchemes
 pub mod Progress
 pub mod Renaming

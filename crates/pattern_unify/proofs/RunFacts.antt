@@ -1,19 +1,13 @@
 -- The runs of worked systems of equations.
 use Rattle.std.proofs.Common.{◌≡◌, ℕ, List, [], ◌∷◌, length, inl, inr, refl, ap, arith}
-use Rattle.std.specs.Prelude.{false, Some, codes, ◌<◌}
+use Rattle.std.specs.Prelude.{◌<◌}
 use Rattle.binding_terms.specs.Signature.{Signature}
-use Rattle.binding_terms.specs.declared.grammar.CatId.{CatId}
-use Rattle.binding_terms.specs.declared.grammar.Item.TheVariants.{Word, Slot, Binder}
-use Rattle.scheme_terms.specs.SchemeTree.{SchemeTree, meta, known, local, con, Values, no_values, value, no_parts, part, AreDistinctLocals}
-use Rattle.scheme_terms.specs.Forms.{Names, KnownVariable}
-use Rattle.scheme_terms.specs.declared.scheme.MetaDecl.{MetaDecl}
-use Rattle.scheme_terms.specs.declared.scheme.Root.TheVariants.{Closed}
+use Rattle.scheme_terms.specs.SchemeTree.{SchemeTree, meta, known, local, con, Values, no_values, value, AreDistinctLocals}
+use Rattle.scheme_terms.specs.Forms.{Names}
 use Rattle.pattern_unify.specs.Equations.{SchemeEquation}
 use Rattle.pattern_unify.specs.Worked.{functions, name_with, one, two, over, function, bare, on, on_two, under_none, under_one, under_two, swapped, fewer, below_function, escaping, circular, no_pattern, nested, freeing}
 use Rattle.pattern_unify.specs.State.{State, names_of, start}
-use Rattle.pattern_unify.specs.Patterns.{over_parameters}
 use Rattle.pattern_unify.specs.Pruning.{HasOther}
-use Rattle.pattern_unify.specs.Measure.{measure, IsBelow}
 use Rattle.pattern_unify.specs.Moves.{Row, delete, decompose, clash, join, meet, prune, bind, Direction, left_first, right_first, Applies, Rests, place_in_table}
 use Rattle.pattern_unify.specs.Move.{goes_on, deletes, clashes, meets, prunes, binds}
 use Rattle.pattern_unify.specs.Run.{IsFirstMove, Turn, solved, clashed, Runs, is_solved, is_stuck, has_clash, turns, EndsStuck}
@@ -411,21 +405,7 @@ pub prune_answer : Runs functions prune_start (solved (without (under_two (on 2 
 prune_answer =
     turns _ _ _ prune_turn (turns _ _ _ bind_after_prune (turns _ _ _ (delete_turn bound_after_prune _ [] refl refl) (is_solved _ refl)))
 
--- the meet lowers the sum of the parameters: 3 before it, 1 after it
-pub meet_falls : IsBelow (measure met) (measure meet_start)
-meet_falls = inl (omega arith)
-
-pub meet_measure : measure meet_start ≡ record { metas = 3; knowns = 0; size = 6 }
-meet_measure = refl
-
--- t1[x, x'] = fn x'' => t2[x'', x]: what t1 becomes over its parameters x and x'
-pub function_bound : over_parameters (value (local 1) (value (local 0) no_values)) (function (on_two 1 (local 0) (local 2))) ≡ function (on_two 1 (local 0) (local 2))
-function_bound = refl
-
--- what the arguments of a pattern become when the locals are the other way round
-pub function_turned : over_parameters (value (local 0) (value (local 1) no_values)) (function (on_two 1 (local 0) (local 2))) ≡ function (on_two 1 (local 0) (local 1))
-function_turned = refl
-
+-- t1[x, x'] = fn x'' => t2[x'', x]: t1 becomes the function over its parameters
 abbrev function_start : State
 function_start = start (over (name_with two ∷ (name_with two ∷ []))) (below_function ∷ [])
 

@@ -1,6 +1,6 @@
 -- The runs of more worked systems: both directions, the order of prunes, a join, two stuck equations, clashes below binders.
 use Rattle.std.proofs.Common.{◌≡◌, ◌≢◌, ℕ, ◌<◌, List, [], ◌∷◌, length, inl, inr, refl, ap, sym, arith}
-use Rattle.scheme_terms.specs.SchemeTree.{SchemeTree, meta, known, local, con, Values, no_values, value, Parts, no_parts, part, AreDistinctLocals}
+use Rattle.scheme_terms.specs.SchemeTree.{SchemeTree, meta, local, con, Values, no_values, value, Parts, no_parts, part, AreDistinctLocals}
 use Rattle.scheme_terms.specs.Forms.{Names}
 use Rattle.pattern_unify.specs.Equations.{SchemeEquation}
 use Rattle.pattern_unify.specs.State.{State, names_of, start}
@@ -8,9 +8,9 @@ use Rattle.pattern_unify.specs.Patterns.{IsRigidInParts, PartsHaveRigidOther}
 use Rattle.pattern_unify.specs.Pruning.{HasPrunable, PartsHavePrunable}
 use Rattle.pattern_unify.specs.Moves.{Row, delete, decompose, clash, join, meet, prune, bind, Direction, left_first, right_first, Applies, place_in_table}
 use Rattle.pattern_unify.specs.Move.{goes_on, has_none, decomposes, clashes, joins, prunes, binds}
-use Rattle.pattern_unify.specs.Run.{Turn, Runs, is_solved, is_stuck, has_clash, turns}
-use Rattle.pattern_unify.specs.Worked.{functions, name_with, one, two, over, function, application, bare, on, on_two, under_none, under_one, under_two, under_three, no_pattern, no_pattern_either, crossing, two_to_prune, over_two_known, known_pair, escaping_below, different_below, BothArePruned, FirstIsPrunedFirst, KnownAreJoined, KnownAreToUnify, BothAreStuck, ClashBelowBinders}
-use Rattle.pattern_unify.proofs.RunFacts.{head_number, kind, other_local, zero_not_one, one_not_zero, without, delete_turn, stuck_rests}
+use Rattle.pattern_unify.specs.Run.{Turn, is_solved, is_stuck, has_clash, turns}
+use Rattle.pattern_unify.specs.Worked.{functions, name_with, one, two, over, application, bare, on, on_two, under_none, under_one, under_two, under_three, no_pattern, no_pattern_either, crossing, two_to_prune, over_two_known, known_pair, escaping_below, different_below, BothArePruned, FirstIsPrunedFirst, KnownAreJoined, KnownAreToUnify, BothAreStuck, ClashBelowBinders}
+use Rattle.pattern_unify.proofs.RunFacts.{head_number, kind, other_local, zero_not_one, one_not_zero, delete_turn, stuck_rests}
 
 -- different locals, in the order in which they stand
 distinct : {i j : ℕ} → (j ≡ i → ⊥) → AreDistinctLocals (value (local i) (value (local j) no_values))

@@ -1,23 +1,14 @@
 -- What the answers of `unify` say. To be held against docs/notation.md, 'Unification' (its answers).
-use Rattle.std.specs.Prelude.{◌≡◌, List, [], map}
-use Rattle.std.specs.List.{AllByRecursion}
+use Rattle.std.specs.Prelude.{◌≡◌, List, map}
 use Rattle.binding_terms.specs.Signature.{Signature}
 use Rattle.scheme_terms.specs.Forms.{Names, Substitution}
 use Rattle.scheme_terms.specs.View.{substitution}
 use Rattle.pattern_unify.specs.declared.unified.Unified.{Unified}
 use Rattle.pattern_unify.specs.declared.unified.Unified.TheVariants.{Unifier, NoUnifier, Outside}
 use Rattle.pattern_unify.specs.Equations.{SchemeEquation, equation}
-use Rattle.pattern_unify.specs.Plain.{NothingBinds, HaveNoParameters}
 use Rattle.pattern_unify.specs.CommonInstance.{HaveCommonInstance}
 use Rattle.pattern_unify.specs.MostGeneral.{IsMostGeneral}
 use Rattle.pattern_unify.specs.Run.{EndsStuck, IsWithinFragment}
-
--- nothing binds, no name has parameters, there is no known variable, and no side stands under locals
-pub record AreWithoutBinding (sig : Signature) (names : Names) (eqs : List SchemeEquation) : Type 0 where
-  pub slots : NothingBinds sig
-  pub metas : HaveNoParameters names.metas
-  pub knowns : names.knowns ≡ []
-  pub locals : AllByRecursion (λ e. e.locals ≡ []) eqs
 
 -- an answer of `unify`, as plain data
 pub data UnifyAnswer : Type 0 where
@@ -50,9 +41,3 @@ abbrev pub IsUnifyAnswer : Signature → Names → List SchemeEquation → Unify
 IsUnifyAnswer sig names eqs (unifier by) = IsUnifier sig names eqs by
 IsUnifyAnswer sig names eqs no_unifier = IsNoUnifier sig names eqs
 IsUnifyAnswer sig names eqs (outside left) = IsOutside sig names eqs left
-
--- the contract of `unify` where nothing binds: there no run ends stuck
-abbrev pub IsPlainUnifyAnswer : Signature → Names → List SchemeEquation → UnifyAnswer → Type 0
-IsPlainUnifyAnswer sig names eqs (unifier by) = IsMostGeneral sig names eqs by
-IsPlainUnifyAnswer sig names eqs no_unifier = HaveCommonInstance sig names eqs → ⊥
-IsPlainUnifyAnswer sig names eqs (outside left) = ⊥

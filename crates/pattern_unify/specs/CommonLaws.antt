@@ -13,7 +13,6 @@ use Rattle.pattern_unify.specs.State.{State, names_of, start}
 use Rattle.pattern_unify.specs.Move.{goes_on}
 use Rattle.pattern_unify.specs.Run.{Turn, solved, Runs, IsWithinFragment}
 use Rattle.pattern_unify.specs.LeftNames.{left_names}
-use Rattle.pattern_unify.specs.Answers.{AreWithoutBinding}
 use Rattle.pattern_unify.specs.Laws.{IsState}
 
 -- the substitution is what the run has found so far, with a common instance of the equations that are left after it
@@ -75,9 +74,3 @@ PatternsAreWithin =
     (sig : Signature) (names : Names) (eqs : List SchemeEquation) → Fits sig → AreToUnify sig names eqs →
     AllByRecursion (λ e. IsOfPatterns e.left × IsOfPatterns e.right) eqs →
     AllByRecursion (λ decl. AllByRecursion IsOfPatterns decl.entry.args) names.knowns → IsWithinFragment sig names eqs
-
--- where nothing binds, equations are within the fragment
-abbrev pub PlainIsWithin : Type 0
-PlainIsWithin =
-    (sig : Signature) (names : Names) (eqs : List SchemeEquation) → AreToUnify sig names eqs → AreWithoutBinding sig names eqs →
-    IsWithinFragment sig names eqs

@@ -1,11 +1,21 @@
 //! What holds of the moves of a unification and of its written run. The functions do nothing: their contracts are the laws.
 
 ghost use Rattle.pattern_unify.specs.CommonLaws.{StartHasCommonInstances, TurnKeepsCommonInstances, TurnKeepsGroundInstances, SolvedIsMostGeneral, MostGeneralIsUpToReach, PatternsAreWithin};
-ghost use Rattle.pattern_unify.specs.Laws.{TurnKeepsState, TurnFalls, TurnFallsBy, TurnIsFunction, RunEnds, RunIsFunction, WithinOrStuck, StuckSystemIsOne, ClashHasNone};
+ghost use Rattle.pattern_unify.specs.Laws.{StartIsState, StateGoesOn, TurnKeepsState, TurnFalls, TurnFallsBy, TurnIsFunction, RunEnds, RunIsFunction, WithinOrStuck, StuckSystemIsOne, ClashHasNone};
 
 /// A turn keeps the scopes: its equations have sides of one category, and each metavariable has become a scheme of its category.
 pub fn turn_keeps_state()
     ensures { TurnKeepsState }
+{}
+
+/// The start of a run is a state: its sides are of one category, the known variables fit, and each metavariable is itself.
+pub fn start_is_a_state()
+    ensures { StartIsState }
+{}
+
+/// A state is solved or stuck, or it has a turn.
+pub fn states_go_on()
+    ensures { StateGoesOn }
 {}
 
 /// At each turn the measure falls.
