@@ -27,6 +27,12 @@ fn function(alloc: Global) -> Result<Prod, NoMemory>
         quoted: false,
     })?;
     items.push(Item::Binder(TERM))?;
+    let mut arrow = Text::new(alloc);
+    arrow.push(b"=>")?;
+    items.push(Item::Word {
+        text: arrow,
+        quoted: false,
+    })?;
     items.push(Item::Slot {
         cat: TERM,
         binds: Items::from_slice(alloc, &[0])?,
@@ -39,11 +45,13 @@ fn signature(alloc: Global) -> Result<Option<Sig>, NoMemory>
     ensures { IfOk result (λ o. IfSome o (λ sig. Binds sig)) }
 {
     let mut name = Text::new(alloc);
-    name.push(b"x")?;
+    name.push(b"t")?;
+    let mut var = Text::new(alloc);
+    var.push(b"x")?;
     let mut cats = Vec::new(alloc);
     cats.push(Cat {
-        name: Text::new(alloc),
-        var: Some(name),
+        name,
+        var: Some(var),
         context: false,
     })?;
     let mut prods = Vec::new(alloc);
@@ -192,6 +200,16 @@ fn freeing(alloc: Global) -> Result<Equation, NoMemory>
     equate(alloc, &[TERM], left, Scheme::Local(0))
 }
 
+/// `fn x => t4[x] = fn x => x`
+fn bodies(alloc: Global) -> Result<Equation, NoMemory>
+    ensures { IfOk result (λ e. IsOver (equation e)) }
+{
+    let left = of_one(alloc, 4, Scheme::Local(0))?;
+    let left = function_of(alloc, left)?;
+    let right = function_of(alloc, Scheme::Local(0))?;
+    equate(alloc, &[], left, right)
+}
+
 fn answer(alloc: Global, sig: &Sig, eqs: &Vec<Equation>) -> Result<Unified, NoMemory>
     requires sig { Binds sig.now }
     requires eqs { AllByRecursion IsOver (map equation eqs.now.items) }
@@ -264,14 +282,31 @@ fn unifier(answer: Unified) -> Option<Subst> {
     }
 }
 
-/// Whether the five values are names with so many parameters.
+/// Whether one of so many values is that name.
+fn is_earlier(by: &Subst, name: u32, count: usize) -> bool {
+    for place in 0..count {
+        if let Some(Scheme::Meta(other, _)) = by.metas.get(place) {
+            if other.0 == name {
+                return true;
+            }
+        }
+    }
+    false
+}
+
+/// Whether the five values are different names with so many parameters.
 fn are_names(by: &Option<Subst>, params: [usize; 5]) -> bool {
     let Some(by) = by else {
         return false;
     };
     for place in 0..5 {
-        if name_with(by.metas.get(place), params[place]).is_none() {
-            return false;
+        match name_with(by.metas.get(place), params[place]) {
+            Some(name) => {
+                if is_earlier(by, name, place) {
+                    return false;
+                }
+            }
+            None => return false,
         }
     }
     true
@@ -281,8 +316,8 @@ fn is_none(answer: &Unified) -> bool {
     matches!(answer, Unified::NoUnifier)
 }
 
-/// Whether the answer is these two sides, as the one equation that is left.
-fn is_left(answer: &Unified, left: &Scheme, right: &Scheme) -> bool {
+/// Whether the answer is that equation alone, which is left.
+fn is_left(answer: &Unified, wanted: &Equation) -> bool {
     let Unified::Outside(eqs) = answer else {
         return false;
     };
@@ -290,7 +325,11 @@ fn is_left(answer: &Unified, left: &Scheme, right: &Scheme) -> bool {
         return false;
     }
     match eqs.get(0) {
-        Some(one) => same_scheme(&one.left, left) && same_scheme(&one.right, right),
+        Some(one) => {
+            one.scope.as_slice().len() == wanted.scope.as_slice().len()
+                && same_scheme(&one.left, &wanted.left)
+                && same_scheme(&one.right, &wanted.right)
+        }
         None => false,
     }
 }
@@ -361,6 +400,21 @@ fn a_pattern_becomes_what_stands_under_a_binder(rt: HostRuntime) -> Result<(), F
 }
 
 #[test]
+fn bodies_are_unified_below_their_binder(rt: HostRuntime) -> Result<(), Fail> {
+    let alloc = rt.alloc();
+    let sig = signature(alloc)?;
+    if let Some(sig) = &sig {
+        let by = unifier(answer_to_one(alloc, sig, bodies(alloc)?)?);
+        assert!(rt; by.is_some());
+        if let Some(by) = &by {
+            assert!(rt; is(by.metas.get(4), &Scheme::Local(0)));
+        }
+    }
+    assert!(rt; sig.is_some());
+    Ok(())
+}
+
+#[test]
 fn what_escapes_or_contains_itself_has_no_unifier(rt: HostRuntime) -> Result<(), Fail> {
     let alloc = rt.alloc();
     let sig = signature(alloc)?;
@@ -381,7 +435,7 @@ fn what_is_no_pattern_is_left(rt: HostRuntime) -> Result<(), Fail> {
     if let Some(sig) = &sig {
         let answer = answer_to_one(alloc, sig, no_pattern(alloc)?)?;
         let wanted = no_pattern(alloc)?;
-        assert!(rt; is_left(&answer, &wanted.left, &wanted.right));
+        assert!(rt; is_left(&answer, &wanted));
     }
     assert!(rt; sig.is_some());
     Ok(())
