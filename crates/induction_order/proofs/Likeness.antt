@@ -1,7 +1,7 @@
 -- What is asked of lists of arguments is asked of each of them.
-use Rattle.std.proofs.Common.{◌≡◌, ◌↔◌, ◌<◌, ◌+◌, ℕ, suc, List, [], ◌∷◌, length, get_or, drop, map, refl, ap, subst, sym}
+use Rattle.std.proofs.Common.{◌≡◌, ◌↔◌, ◌<◌, ◌+◌, ℕ, suc, List, [], ◌∷◌, length, get_or, drop, map, refl, ap}
 use Rattle.binding_terms.proofs.Lists.{drop_from}
-use Rattle.scheme_terms.specs.SchemeTree.{SchemeTree, values}
+use Rattle.scheme_terms.specs.SchemeTree.{values}
 use Rattle.scheme_terms.specs.View.{scheme, scheme_part, scheme_parts}
 use Rattle.scheme_terms.specs.declared.scheme.Scheme.{Scheme}
 use Rattle.scheme_terms.specs.declared.scheme.SArg.{SArg}

@@ -1,5 +1,5 @@
 -- A renamed part, found on the way down.
-use Rattle.std.proofs.Common.{◌≡◌, ◌↔◌, ◌+◌, ◌⊎◌, ℕ, inl, inr, refl, ap, sym, subst, arith}
+use Rattle.std.proofs.Common.{◌≡◌, ◌↔◌, ◌+◌, ℕ, inl, inr, refl, sym, subst, arith}
 use Rattle.scheme_terms.specs.SchemeTree.{SchemeTree, meta, known, local, con, Parts, no_parts, part}
 use Rattle.induction_order.specs.Order.{IsPartUnder, IsAmongParts, IsRenamedPart}
 use Rattle.induction_order.specs.Renaming.{IsRenamed, HasRenamed, HasRenamedAmong}

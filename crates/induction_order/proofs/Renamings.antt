@@ -1,10 +1,9 @@
 -- A scheme is a part renamed exactly where it has its shape and all pairs of locals agree.
-use Rattle.std.proofs.Common.{◌≡◌, ◌↔◌, ◌<◌, ◌≤◌, ◌+◌, ◌-◌, ◌⊎◌, ℕ, Bool, true, false, nat_eq, nat_lt, if◌then◌else◌, Option, Some, None, MatchOption, unwrap_or, inl, inr, refl, ap, ◌∙◌, sym, subst, arith}
+use Rattle.std.proofs.Common.{◌≡◌, ◌↔◌, ◌<◌, ◌≤◌, ◌+◌, ◌-◌, ◌⊎◌, ℕ, true, false, nat_eq, nat_lt, if◌then◌else◌, Option, Some, None, MatchOption, unwrap_or, inl, inr, refl, ap, ◌∙◌, sym, subst, arith}
 use Rattle.std.proofs.lemmas.Bool.{cases_eq, cases_lt}
 use Rattle.std.proofs.lemmas.Bool.Decides.{nat_tests}
 use Rattle.scheme_terms.specs.SchemeTree.{SchemeTree, meta, known, local, con, Values, no_values, value, Parts, no_parts, part, filled, filled_values, filled_parts, under, shifted, IsFreeOf, AreFreeOf, PartsFreeOf}
 use Rattle.scheme_terms.proofs.SchemeFilling.{under_at, under_past, under_under, under_none}
-use Rattle.induction_order.specs.Order.{IsRenaming, renamed}
 use Rattle.induction_order.specs.Renaming.{IsRenamed, IsPairOfLocals, IsLike, AreLike, PartsLike, Agrees, IsConsistent}
 
 -- what stands for a bound variable of the part: the first local at one of its places

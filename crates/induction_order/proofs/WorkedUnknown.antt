@@ -1,7 +1,7 @@
 -- Worked relations that are unknown.
-use Rattle.std.proofs.Common.{◌≡◌, ◌⊎◌, ◌+◌, ◌<◌, ℕ, inl, inr, refl, ◌∙◌, sym, subst, ap, arith}
-use Rattle.scheme_terms.specs.SchemeTree.{SchemeTree, meta, known, local, con, no_values, value, no_parts, part}
-use Rattle.induction_order.specs.Order.{IsPartUnder, IsAmongParts, IsRenaming, IsRenamedPart, renamed}
+use Rattle.std.proofs.Common.{◌≡◌, ℕ, inl, inr, refl, ◌∙◌, sym, subst, ap, arith}
+use Rattle.scheme_terms.specs.SchemeTree.{SchemeTree, meta, local, con, no_values, value, no_parts, part}
+use Rattle.induction_order.specs.Order.{IsPartUnder, IsRenaming, IsRenamedPart, renamed}
 use Rattle.induction_order.specs.Worked.{SuccessorIsUnknown, SharedNameIsUnknown}
 
 pub successor_is_unknown : SuccessorIsUnknown
