@@ -1,7 +1,7 @@
 //! What holds of the order: the functions do nothing, since their contracts are the laws.
 
 ghost use Rattle.induction_order.specs.Sizes.{OrderedCallIsSmaller, BelowIsSized, RenamedPartIsSmaller};
-ghost use Rattle.induction_order.specs.Worked.{PredecessorIsLess, BodyIsLess};
+ghost use Rattle.induction_order.specs.Worked.{PredecessorIsLess, BodyIsLess, SuccessorIsUnknown, SharedNameIsUnknown};
 
 /// An ordered call has target sizes that are smaller at the first place where they differ, or the same with the callee earlier in the group.
 #[tactic(auto, using(crate::proofs::OrderFacts::ordered_call_is_smaller))]
@@ -26,4 +26,11 @@ pub fn renamed_parts_are_smaller()
 pub fn parts_are_less()
     ensures predecessor { PredecessorIsLess }
     ensures body { BodyIsLess }
+{}
+
+/// `s n` is not known to be less than `n`, and neither is a part with one variable for two that are bound around it.
+#[tactic(auto, using(crate::proofs::WorkedUnknown::successor_is_unknown, crate::proofs::WorkedUnknown::shared_name_is_unknown))]
+pub fn others_are_unknown()
+    ensures successor { SuccessorIsUnknown }
+    ensures shared_name { SharedNameIsUnknown }
 {}
