@@ -1,10 +1,10 @@
 -- A production has one assumption rule: where two rules are of one, and what a rule more adds.
-use Rattle.std.proofs.Common.{◌≡◌, ◌≢◌, ℕ, zero, suc, List, [], ◌∷◌, ◌++◌, ◌∙◌, inl, inr, refl, ap, subst, sym}
+use Rattle.std.proofs.Common.{◌≡◌, ◌≢◌, ◌⊎◌, ℕ, zero, suc, List, [], ◌∷◌, ◌++◌, ◌∙◌, inl, inr, refl, ap, subst, sym}
 use Rattle.std.specs.Prelude.{slice_get, MatchOption}
-use Rattle.std.proofs.lemmas.List.{append-nil, append-assoc}
+use Rattle.std.proofs.lemmas.List.{append-nil, append_assoc}
 use Rattle.std.specs.List.{AllByRecursion}
 use Rattle.binding_terms.specs.Numbered.{AnyByRecursion, AreDifferent}
-use Rattle.binding_terms.proofs.Lists.{any_front, any_back, any_split, all_append, all_always}
+use Rattle.binding_terms.proofs.Lists.{any_front, any_back, any_split, all_append}
 use Rattle.scheme_terms.specs.Forms.{SchemeEntry}
 use Rattle.scheme_terms.specs.declared.scheme.Root.{Root}
 use Rattle.scheme_terms.specs.declared.scheme.Root.TheVariants.{Closed, Empty, Whole}
@@ -101,15 +101,15 @@ not_alike_at (s ∷ rs) r (suc q) none h = not_alike_at rs r q none.1 h
 
 assumed_with : (rs : List Rule) (r : Rule) → assumed (rs ++ r ∷ []) ≡ assumed rs ++ of_rule r
 assumed_with [] r = append-nil (of_rule r)
-assumed_with (s ∷ rs) r = ap (λ ps. of_rule s ++ ps) (assumed_with rs r) ∙ sym (append-assoc (of_rule s) (assumed rs) (of_rule r))
+assumed_with (s ∷ rs) r = ap (λ ps. of_rule s ++ ps) (assumed_with rs r) ∙ sym (append_assoc (of_rule s) (assumed rs) (of_rule r))
 
 absent : (rs : List Rule) (r : Rule) (n : ℕ) → of_rule r ≡ n ∷ [] → AllByRecursion (λ s. AssumeAlike s r → ⊥) rs → Has n (assumed rs) → ⊥
 absent [] r n e none h = h
-absent (s ∷ rs) r n e none h = at (any_split (λ p. p ≡ n) (of_rule s) (assumed rs) h)
+absent (s ∷ rs) r n e none h = at (any_split (λ p. p ≡ n) (of_rule s) (assumed rs) h) (λ there. absent rs r n e none.1 there)
   where
-    at : Rattle.std.specs.Prelude.◌⊎◌ (Has n (of_rule s)) (Has n (assumed rs)) → ⊥
-    at (inl here) = none.0 (one_alike s r n e here)
-    at (inr there) = absent rs r n e none.1 there
+    at : Has n (of_rule s) ⊎ Has n (assumed rs) → (Has n (assumed rs) → ⊥) → ⊥
+    at (inl here) never = none.0 (one_alike s r n e here)
+    at (inr there) never = never there
 
 absent_all : (n : ℕ) (xs : List ℕ) → (Has n xs → ⊥) → AllByRecursion (λ k. k ≢ n) xs
 absent_all n [] h = tt

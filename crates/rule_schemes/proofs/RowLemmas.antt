@@ -3,7 +3,7 @@ use Rattle.std.proofs.Common.{◌≡◌, ◌↔◌, ◌⊎◌, ◌<◌, ◌+◌,
 use Rattle.std.specs.List.{AllByRecursion}
 use Rattle.std.proofs.lemmas.List.{length_push}
 use Rattle.std.proofs.lemmas.Option.{get_or_from_slice_get, slice_get-get_or, slice_get_within}
-use Rattle.binding_terms.specs.Numbered.{AnyByRecursion, AllNumbered}
+use Rattle.binding_terms.specs.Numbered.{AnyByRecursion}
 use Rattle.binding_terms.specs.Reach.{IsMarked}
 use Rattle.binding_terms.proofs.Lists.{all_numbered, numbered_at, numbered_match_at}
 use Rattle.rule_schemes.specs.Rows.{AreMarks, AreRows, HasAlsoAt}

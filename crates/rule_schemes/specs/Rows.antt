@@ -1,7 +1,6 @@
 -- The rows that a system keeps beside its parts, with a mark for each judgment below each judgment. To be held against
 -- docs/definitions.md, 'Systems', on what a judgment without a context asks.
 use Rattle.std.specs.Prelude.{◌≡◌, ◌<◌, ◌≤◌, ◌⊎◌, ◌↔◌, ◌^◌, ℕ, Bool, List, length}
-use Rattle.std.specs.List.{AllByRecursion}
 use Rattle.binding_terms.specs.Numbered.{AllNumbered}
 use Rattle.binding_terms.specs.Reach.{IsMarked}
 use Rattle.rule_schemes.specs.Rules.{Rule, Theory, Below, IsSystemSoFar}

@@ -96,7 +96,8 @@ fn join_at(row: &mut Items<bool>, judgment: JudgId, more: &[bool])
 
 /// The same for each row.
 pub(crate) fn join_all(rows: &mut [Items<bool>], judgment: JudgId, more: &[bool])
-    ensures { (x : ℕ) → x < length rows.old
+    ensures long { length rows.new ≡ length rows.old }
+    ensures each { (x : ℕ) → x < length rows.old
         → HasAlsoAt judgment.0 (slice_index_or rows.old x []) more.now (slice_index_or rows.new x []) }
 {
     for row in rows.iter_mut() {

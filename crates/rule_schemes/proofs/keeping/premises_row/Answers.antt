@@ -1,4 +1,3 @@
-use Rattle.std.proofs.Common.{map}
 use Rattle.rule_schemes.proofs.RowLemmas.{AreMarks-push}
 use Rattle.rule_schemes.proofs.keeping.premises_row.Goals as goal
 
