@@ -19,15 +19,19 @@ pub returns-in_err-more-clause-refused : goal.returns-in_err-more-clause-refused
 returns-in_err-more-clause-refused c =
     let memory = err_from_is_err_and c.from_residual.result c.from_residual.ensures.1 in
     let gives : c.from_residual.result ≡ Err NoMemory = memory.1 ∙ ap (λ (y : RuleFault). Err y) memory.2 in
-    λ fault not_memory. (λ e. let is : fault ≡ NoMemory = cc in absurd (not_memory is),
-      λ h. absurd (Refuses-none (theory c.args.self.now) (rule c.args.rule) c.in_default.ensures.none fault h))
+    λ fault not_memory. (
+      λ e. let is : fault ≡ NoMemory = cc in absurd (not_memory is),
+      λ h. absurd (Refuses-none (theory c.args.self.now) (rule c.args.rule) c.in_default.ensures.none fault h),
+    )
 
 pub returns-in_err-push-clause-refused : goal.returns-in_err-push-clause-refused
 returns-in_err-push-clause-refused c =
     let memory = err_from_is_err_and c.from_residual-in_err-push.result c.from_residual-in_err-push.ensures.1 in
     let gives : c.from_residual-in_err-push.result ≡ Err NoMemory = memory.1 ∙ ap (λ (y : RuleFault). Err y) memory.2 in
-    λ fault not_memory. (λ e. let is : fault ≡ NoMemory = cc in absurd (not_memory is),
-      λ h. absurd (Refuses-none (theory c.args.self.now) (rule c.args.rule) c.in_default.ensures.none fault h))
+    λ fault not_memory. (
+      λ e. let is : fault ≡ NoMemory = cc in absurd (not_memory is),
+      λ h. absurd (Refuses-none (theory c.args.self.now) (rule c.args.rule) c.in_default.ensures.none fault h),
+    )
 
 pub invariant_of-self-2 : goal.invariant_of-self-2
 invariant_of-self-2 c =
