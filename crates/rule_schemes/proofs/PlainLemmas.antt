@@ -1,9 +1,7 @@
 -- Over a theory without contexts a rule has a good conclusion, each premise may stand in it, and it is no assumption rule.
-use Rattle.std.proofs.Common.{◌≡◌, ℕ, zero, suc, List, [], ◌∷◌, ◌++◌, ◌∙◌, inl, inr, refl, ap, subst, sym, true≢false}
+use Rattle.std.proofs.Common.{◌≡◌, ℕ, zero, suc, List, [], ◌∷◌, ◌∙◌, inl, inr, refl, subst, sym, true≢false}
 use Rattle.std.specs.Prelude.{Option, Some, None, true, false, slice_get, MatchOption, count_by, ◌==◌}
-use Rattle.std.proofs.lemmas.List.{append-nil}
 use Rattle.std.specs.List.{AllByRecursion}
-use Rattle.binding_terms.specs.Numbered.{AnyByRecursion, AreDifferent}
 use Rattle.binding_terms.specs.Signature.{Signature, IsContext, slots}
 use Rattle.binding_terms.specs.declared.grammar.Cat.{Cat}
 use Rattle.binding_terms.specs.declared.grammar.CatId.{CatId}
@@ -11,10 +9,10 @@ use Rattle.scheme_terms.specs.Forms.{SchemeEntry, SchemeContext}
 use Rattle.scheme_terms.specs.SchemeScope.{IsSchemeContext}
 use Rattle.scheme_terms.specs.declared.scheme.Root.{Root}
 use Rattle.scheme_terms.specs.declared.scheme.Root.TheVariants.{Closed, Empty, Whole}
-use Rattle.rule_schemes.specs.Rules.{JudgmentScheme, Rule, Theory, JudgmentFits, IsRootOf, IsBareName, HasForms, RuleFits, HasGoodConclusion, MayStand, IsSystemSoFar, IsSystem, assumed_by, assumed, rule_names}
-use Rattle.rule_schemes.specs.Plain.{HasNoContextCategory, IsPlainSignature, IsPlainTheory, IsSystemWithoutContexts, IsPlainSystem}
-use Rattle.rule_schemes.specs.Refused.{IsFirstMisplaced, with_rule, AssumeAlike}
-use Rattle.binding_terms.proofs.Lists.{all_found, all_push, all_weaker}
+use Rattle.rule_schemes.specs.Rules.{JudgmentScheme, Rule, Theory, JudgmentFits, IsRootOf, IsBareName, HasForms, HasGoodConclusion, MayStand, IsSystemSoFar, IsSystem, rule_names}
+use Rattle.rule_schemes.specs.Plain.{HasNoContextCategory, IsPlainSignature, IsPlainTheory, IsPlainSystem}
+use Rattle.rule_schemes.specs.Refused.{IsFirstMisplaced}
+use Rattle.binding_terms.proofs.Lists.{all_found, all_weaker}
 
 -- a system without contexts and binding
 pub plain_system : {th : Theory} → IsSystemSoFar th → IsPlainTheory th → IsPlainSystem th
