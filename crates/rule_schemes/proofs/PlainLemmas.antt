@@ -1,9 +1,7 @@
 -- Over a theory without contexts a rule has a good conclusion, each premise may stand in it, and it is no assumption rule.
-use Rattle.std.proofs.Common.{◌≡◌, ℕ, zero, suc, List, [], ◌∷◌, ◌++◌, ◌∙◌, inl, inr, refl, ap, subst, sym, true≢false}
+use Rattle.std.proofs.Common.{◌≡◌, ℕ, zero, suc, List, [], ◌∷◌, ◌∙◌, inl, inr, refl, subst, sym, true≢false}
 use Rattle.std.specs.Prelude.{Option, Some, None, true, false, slice_get, MatchOption, count_by, ◌==◌}
-use Rattle.std.proofs.lemmas.List.{append-nil}
 use Rattle.std.specs.List.{AllByRecursion}
-use Rattle.binding_terms.specs.Numbered.{AnyByRecursion, AreDifferent}
 use Rattle.binding_terms.specs.Signature.{Signature, IsContext, slots}
 use Rattle.binding_terms.specs.declared.grammar.Cat.{Cat}
 use Rattle.binding_terms.specs.declared.grammar.CatId.{CatId}
@@ -11,10 +9,10 @@ use Rattle.scheme_terms.specs.Forms.{SchemeEntry, SchemeContext}
 use Rattle.scheme_terms.specs.SchemeScope.{IsSchemeContext}
 use Rattle.scheme_terms.specs.declared.scheme.Root.{Root}
 use Rattle.scheme_terms.specs.declared.scheme.Root.TheVariants.{Closed, Empty, Whole}
-use Rattle.rule_schemes.specs.Rules.{JudgmentScheme, Rule, Theory, JudgmentFits, IsRootOf, IsBareName, HasForms, RuleFits, HasGoodConclusion, MayStand, IsSystemSoFar, IsSystem, assumed_by, assumed, rule_names}
-use Rattle.rule_schemes.specs.Plain.{HasNoContextCategory, IsPlainSignature, IsPlainTheory, IsSystemWithoutContexts, IsPlainSystem}
-use Rattle.rule_schemes.specs.Refused.{IsFirstMisplaced, with_rule, AssumeAlike}
-use Rattle.binding_terms.proofs.Lists.{all_found, all_push, all_weaker}
+use Rattle.rule_schemes.specs.Rules.{JudgmentScheme, Rule, Theory, JudgmentFits, IsRootOf, IsBareName, HasForms, HasGoodConclusion, MayStand, IsSystemSoFar, IsSystem, rule_names}
+use Rattle.rule_schemes.specs.Plain.{HasNoContextCategory, IsPlainSignature, IsPlainTheory, IsPlainSystem}
+use Rattle.rule_schemes.specs.Refused.{IsFirstMisplaced}
+use Rattle.binding_terms.proofs.Lists.{all_found, all_weaker}
 
 -- a system without contexts and binding
 pub plain_system : {th : Theory} → IsSystemSoFar th → IsPlainTheory th → IsPlainSystem th
@@ -76,56 +74,6 @@ pub closed_not_misplaced : (th : Theory) (r : Rule) (ps : List JudgmentScheme) (
 closed_not_misplaced th r [] j e h = h
 closed_not_misplaced th r (p ∷ ps) j e (inl h) = h.1 (may_stand th r.conclusion.context.root p.context.root p.judgment e)
 closed_not_misplaced th r (p ∷ ps) j e (inr h) = closed_not_misplaced th r ps j e h.1
-
--- a rule without a context is no assumption rule
-pub closed_assumes_nothing : (r : Rule) → IsClosedForm r.conclusion.context
-    → assumed_by r.conclusion.context.root r.conclusion.context.entries ≡ []
-closed_assumes_nothing r c = ap (λ x. assumed_by x r.conclusion.context.entries) c.root
-
-none_alike : (ps : List ℕ) → AnyByRecursion (λ p. AnyByRecursion (λ q. p ≡ q) []) ps → ⊥
-none_alike [] h = h
-none_alike (p ∷ ps) (inl h) = h
-none_alike (p ∷ ps) (inr h) = none_alike ps h
-
-pub closed_not_alike : (s r : Rule) → IsClosedForm r.conclusion.context → AssumeAlike s r → ⊥
-closed_not_alike s r c h =
-    none_alike (assumed_by s.conclusion.context.root s.conclusion.context.entries)
-    (subst (λ (qs : List ℕ). AnyByRecursion (λ p. AnyByRecursion (λ q. p ≡ q) qs) (assumed_by s.conclusion.context.root s.conclusion.context.entries)) (closed_assumes_nothing r c) h)
-
-no_second : (rs : List Rule) (n : ℕ) (r : Rule) → IsClosedForm r.conclusion.context → MatchOption (slice_get rs n) ⊥ (λ s. AssumeAlike s r) → ⊥
-no_second [] n r c h = h
-no_second (s ∷ rs) zero r c h = closed_not_alike s r c h
-no_second (s ∷ rs) (suc n) r c h = no_second rs n r c h
-
-pub closed_not_second : (th : Theory) (n : ℕ) (r : Rule) → IsClosedForm r.conclusion.context → MatchOption (slice_get th.rules n) ⊥ (λ s. AssumeAlike s r) → ⊥
-closed_not_second th n r c h = no_second th.rules n r c h
-
-assumed_with : (rs : List Rule) (r : Rule) → assumed_by r.conclusion.context.root r.conclusion.context.entries ≡ [] → assumed (rs ++ r ∷ []) ≡ assumed rs
-assumed_with [] r e = append-nil (assumed_by r.conclusion.context.root r.conclusion.context.entries) ∙ e
-assumed_with (s ∷ rs) r e = ap (λ ps. assumed_by s.conclusion.context.root s.conclusion.context.entries ++ ps) (assumed_with rs r e)
-
--- what a rule needs of the theory does not depend on the other rules
-fits_with : (th : Theory) (r s : Rule) → RuleFits th s → RuleFits (with_rule th r) s
-fits_with th r s fits =
-    record {
-      forms = record { conclusion = fits.forms.conclusion; premises = fits.forms.premises; roots = fits.forms.roots; entries = fits.forms.entries };
-      good_conclusion = fits.good_conclusion;
-      strict = fits.strict;
-    }
-
--- a system stays one with a rule more
-pub IsSystemWithoutContexts-with_rule : (th : Theory) (r : Rule) → IsSystemWithoutContexts th → RuleFits th r → IsSystemWithoutContexts (with_rule th r)
-IsSystemWithoutContexts-with_rule th r system fits =
-    let closed = closed_form th r system.no_context system.so_far.judgments fits.forms in
-    record {
-      so_far = record {
-        sig = system.so_far.sig;
-        judgments = system.so_far.judgments;
-        rules = all_push (RuleFits (with_rule th r)) th.rules r (all_weaker (fits_with th r) th.rules system.so_far.rules) (fits_with th r r fits);
-        one_assumption = subst AreDifferent (sym (assumed_with th.rules r (closed_assumes_nothing r closed))) system.so_far.one_assumption;
-      };
-      no_context = system.no_context;
-    }
 
 -- a system without contexts is whole
 pub IsPlainSystem-whole : (th : Theory) → IsPlainSystem th → IsSystem th

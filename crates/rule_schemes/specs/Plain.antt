@@ -20,12 +20,7 @@ pub record IsPlainTheory (th : Theory) : Type 0 where
   pub sig : IsPlainSignature th.sig
   pub rules : AllByRecursion HasPlainNames th.rules
 
--- what holds of every value of the type of systems: so far it has no contexts
-pub record IsSystemWithoutContexts (th : Theory) : Type 0 where
-  pub so_far : IsSystemSoFar th
-  pub no_context : HasNoContextCategory th.sig
-
--- a system in which nothing binds either
+-- a system without contexts in which nothing binds
 pub record IsPlainSystem (th : Theory) : Type 0 where
   pub so_far : IsSystemSoFar th
   pub plain : IsPlainTheory th

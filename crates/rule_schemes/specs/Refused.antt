@@ -1,6 +1,7 @@
 -- Why a rule is refused. Held against the rules of the profile on assumption rules, ordinary rules and judgments without a
 -- context.
 use Rattle.std.specs.Prelude.{◌≡◌, ◌⊎◌, ℕ, suc, List, [], ◌∷◌, ◌++◌, slice_get, MatchOption}
+use Rattle.std.specs.List.{AllByRecursion}
 use Rattle.binding_terms.specs.Numbered.{AnyByRecursion, AllNumbered}
 use Rattle.scheme_terms.specs.declared.scheme.MetaDecl.{MetaDecl}
 use Rattle.rule_schemes.specs.declared.fault.RuleFault.{RuleFault}
@@ -50,6 +51,13 @@ pub record IsSecondAssumption (th : Theory) (r : Rule) (earlier : ℕ) : Type 0 
   pub strict : AllStrict r
   pub placed : NeedsNoContext (with_rule th r) r
   pub alike : MatchOption (slice_get th.rules earlier) ⊥ (λ s. AssumeAlike s r)
+
+-- nothing speaks against the rule
+pub record IsTaken (th : Theory) (r : Rule) : Type 0 where
+  pub good_conclusion : HasGoodConclusion r
+  pub strict : AllStrict r
+  pub placed : NeedsNoContext (with_rule th r) r
+  pub alone : AllByRecursion (λ s. AssumeAlike s r → ⊥) th.rules
 
 -- The system refuses the rule with this fault. Want of memory is no reason that lies in the rule.
 abbrev pub Refuses : Theory → Rule → RuleFault → Type 0

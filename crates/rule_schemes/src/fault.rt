@@ -18,6 +18,15 @@ pub enum RuleFault {
     NoMemory,
 }
 
+/// Why a statement is at fault. The first of these that stands is the answer.
+#[derive(Clone, Copy, Debug, PartialEq, Eq)]
+pub enum StatementFault {
+    /// The first metavariable without the strict occurrence that is asked of it.
+    NotStrict(MetaId),
+    /// The judgment of the first form without a context that may not stand in a statement about contexts, inputs first.
+    NeedsContext(JudgId),
+}
+
 impl From<NoMemory> for RuleFault {
     ghost use Rattle.rule_schemes.specs.declared.fault.RuleFault.TheVariants as faults;
     ghost use Rattle.std.specs.Prelude.{◌≡◌};

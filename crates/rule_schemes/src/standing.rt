@@ -1,5 +1,5 @@
 // Which judgments without a context may stand under a root, by the rules that are there.
-ghost use Rattle.std.specs.Prelude.{◌↔◌, ◌<◌, ◌^◌, ℕ, IsTrue, IfSome, IfNone, length, map};
+ghost use Rattle.std.specs.Prelude.{◌↔◌, ◌<◌, ◌≤◌, ◌^◌, ℕ, IsTrue, IfSome, IfNone, length, map};
 ghost use Rattle.std.specs.List.{AllByRecursion};
 ghost use Rattle.rule_schemes.specs.Rules.{MayStand, NeedsNoContext};
 ghost use Rattle.rule_schemes.specs.Open.{IsFirstOpen};
@@ -71,7 +71,7 @@ pub(crate) fn first_open(
     rows: &[Items<bool>],
 ) -> Option<RuleId>
     requires kept { AreKept (record { sig = sig.now; judgments = judgments.now; rules = map plain_rule rules.now }) rows.now }
-    requires count { length rules.now < 2 ^ 32 }
+    requires count { length rules.now ≤ 2 ^ 32 }
     ensures some { IfSome result (λ id. IsFirstOpen (record { sig = sig.now; judgments = judgments.now; rules = map plain_rule rules.now })
         0 (map plain_rule rules.now) id.0) }
     ensures none { IfNone result (AllByRecursion (NeedsNoContext (record { sig = sig.now; judgments = judgments.now; rules = map plain_rule rules.now }))
