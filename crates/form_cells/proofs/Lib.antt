@@ -3,3 +3,8 @@ pub mod VariableLemmas
 pub mod Tokens
 pub mod WordLemmas
 pub mod TableLemmas
+pub mod Joining
+pub mod TermLemmas
+pub mod ArgumentLemmas
+pub mod RowLemmas
+pub mod ProductLemmas

@@ -2,6 +2,7 @@
 #![tactic(auto)]
 
 mod form;
+mod reader;
 mod sheet;
 mod simple;
 mod table;
@@ -9,6 +10,7 @@ mod variables;
 mod words;
 
 pub use form::{Form, words_at};
+pub use reader::{rows, terms};
 pub use sheet::Sheet;
 pub use simple::{all_in_parentheses, at_end, bound_variable};
 pub use table::Table;
