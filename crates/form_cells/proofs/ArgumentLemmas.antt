@@ -1,5 +1,5 @@
 -- The first readings of the arguments of a metavariable.
-use Rattle.std.proofs.Common.{◌≡◌, ◌≢◌, ◌⊎◌, ◌↔◌, ℕ, ◌+◌, ◌-◌, ◌<◌, ◌≤◌, List, [], ◌∷◌, ◌++◌, length, inl, inr, refl, ap, ◌∙◌, sym, subst, arith, length-append, slice_range}
+use Rattle.std.proofs.Common.{◌≡◌, ℕ, ◌+◌, ◌-◌, ◌<◌, ◌≤◌, List, [], ◌∷◌, ◌++◌, length, inl, inr, refl, ap, ◌∙◌, sym, subst, arith, length-append, slice_range}
 use Rattle.binding_terms.specs.Signature.{Signature}
 use Rattle.binding_terms.proofs.Lists.{same_fronts}
 use Rattle.scheme_terms.specs.SchemeTree.{SchemeTree, meta, Values, no_values, value}
@@ -17,7 +17,7 @@ use Rattle.ordered_readings.proofs.SamePlace.{argument_law}
 use Rattle.ordered_readings.proofs.Transitive.{before_transitive}
 use Rattle.form_cells.specs.Cells.{GoesOn}
 use Rattle.form_cells.proofs.Ranges.{range_length, range_two}
-use Rattle.form_cells.proofs.Joining.{AreOrdered, IsJoined, IsProductOf, lengths_first, product_first, same_first, no_first, none_listed}
+use Rattle.form_cells.proofs.Joining.{AreOrdered, IsJoined, IsProductOf, lengths_first, product_first, same_first, no_first}
 
 module _ {sig : Signature} {metas : List MetaDecl} where
   mutual

@@ -1,5 +1,5 @@
 -- The first readings of one kind or another, of one part before another, and of any length.
-use Rattle.std.proofs.Common.{◌≡◌, ◌≢◌, ◌⊎◌, ◌↔◌, ℕ, ◌+◌, List, [], ◌∷◌, ◌++◌, length, map, inl, inr, refl, ap, ◌∙◌, sym, arith}
+use Rattle.std.proofs.Common.{◌≡◌, ◌⊎◌, ◌↔◌, ℕ, ◌+◌, List, [], ◌∷◌, ◌++◌, length, map, inl, inr, refl, ap, ◌∙◌, arith}
 use Rattle.scheme_terms.specs.SchemeTree.{SchemeTree}
 use Rattle.rule_schemes.specs.Said.{Way, IsBefore}
 use Rattle.ordered_readings.specs.AnswerView.{behind, IsRow, AreRows}

@@ -1,11 +1,9 @@
 -- The first readings by a production, with each list of words at its binders.
 use Rattle.std.proofs.Common.{◌≡◌, ◌≢◌, ◌⊎◌, ◌↔◌, ℕ, ◌+◌, ◌-◌, ◌<◌, ◌≤◌, List, [], ◌∷◌, ◌++◌, length, map, take, drop, inl, inr, refl, ap, ◌∙◌, sym, subst, arith, Some, slice_get, get_or, Result, Ok, Err, OnOk}
 use Rattle.std.specs.List.{AllByRecursion}
-use Rattle.std.proofs.lemmas.List.{take_more, take_all}
-use Rattle.std.proofs.lemmas.Option.{slice_get_within}
+use Rattle.std.proofs.lemmas.List.{take_more}
 use Rattle.binding_terms.specs.Numbered.{AnyByRecursion}
 use Rattle.binding_terms.specs.Signature.{Signature, binders}
-use Rattle.binding_terms.specs.declared.grammar.Item.{Item}
 use Rattle.binding_terms.specs.declared.grammar.Prod.{Prod}
 use Rattle.binding_terms.proofs.Lists.{any_front, any_back, any_split}
 use Rattle.scheme_terms.specs.SchemeTree.{SchemeTree}
@@ -15,8 +13,8 @@ use Rattle.rule_schemes.specs.Said.{Way, IsBefore}
 use Rattle.ordered_readings.specs.Names.{NamesApart}
 use Rattle.ordered_readings.specs.Cells.{ReadsTermAt, ReadsItemsAt}
 use Rattle.ordered_readings.specs.FirstTwo.{AreFirst}
-use Rattle.form_cells.specs.Cells.{IsMade, IsProduct, IsTable, Follows, range_of}
-use Rattle.form_cells.specs.Words.{words_of, AreOwn, AreComplete}
+use Rattle.form_cells.specs.Cells.{IsMade, IsProduct, IsTable, Follows}
+use Rattle.form_cells.specs.Words.{words_of, AreOwn}
 use Rattle.form_cells.specs.View.{variable}
 use Rattle.form_cells.specs.declared.sheet.Sheet.{Sheet}
 use Rattle.form_cells.specs.declared.table.Table.{Table}

@@ -1,18 +1,15 @@
 -- The first readings of rows of items.
-use Rattle.std.proofs.Common.{◌≡◌, ◌≢◌, ◌⊎◌, ◌↔◌, ℕ, ◌+◌, ◌-◌, ◌<◌, ◌≤◌, Bool, List, [], ◌∷◌, ◌++◌, length, map, inl, inr, refl, ap, ◌∙◌, sym, subst, arith, length-append, length-drop, drop, get_or, Some, slice_get, slice_range, true, false, true≢false, if◌then◌else◌}
-use Rattle.std.specs.List.{AllByRecursion}
+use Rattle.std.proofs.Common.{◌≡◌, ◌≢◌, ℕ, ◌+◌, ◌-◌, ◌<◌, ◌≤◌, Bool, List, [], ◌∷◌, ◌++◌, length, inl, inr, refl, ap, ◌∙◌, sym, subst, arith, length-append, length-drop, drop, get_or, slice_range, true, false, true≢false, if◌then◌else◌}
 use Rattle.std.proofs.lemmas.Bool.{cases_lt}
 use Rattle.std.proofs.lemmas.List.{length-map, drop_all}
-use Rattle.binding_terms.specs.Numbered.{AnyByRecursion}
-use Rattle.binding_terms.specs.Signature.{Signature, binders, IsSingle}
+use Rattle.binding_terms.specs.Signature.{Signature, IsSingle}
 use Rattle.binding_terms.specs.declared.grammar.CatId.{CatId}
 use Rattle.binding_terms.specs.declared.grammar.Item.{Item}
 use Rattle.binding_terms.specs.declared.grammar.Item.TheVariants.{Word, Slot, Binder}
-use Rattle.binding_terms.specs.declared.grammar.Prod.{Prod}
 use Rattle.scheme_terms.specs.SchemeTree.{SchemeTree, con, Parts, no_parts}
 use Rattle.scheme_terms.specs.declared.scheme.MetaDecl.{MetaDecl}
-use Rattle.rule_schemes.specs.Reading.{Token, word, Variable, IsTerminal, IsVariableWord, variables_of, slot_variables, ReadsItems, all_read, terminal, binder, slot}
-use Rattle.rule_schemes.specs.Said.{Way, way, Ways, no_ways, then_way, IsBefore, item_lengths, ways_of_items}
+use Rattle.rule_schemes.specs.Reading.{Token, word, Variable, IsTerminal, IsVariableWord, slot_variables, ReadsItems, all_read, terminal, binder, slot}
+use Rattle.rule_schemes.specs.Said.{Way, way, no_ways, IsBefore, item_lengths, ways_of_items}
 use Rattle.ordered_readings.specs.AnswerView.{count, IsRow}
 use Rattle.ordered_readings.specs.Names.{NamesApart}
 use Rattle.ordered_readings.specs.Cells.{ReadsTermAt, ReadsItemsAt, TakesFirst, TakesFewer}

@@ -1,5 +1,5 @@
 -- A table with one scope more.
-use Rattle.std.proofs.Common.{◌≡◌, ℕ, suc, zero, List, [], ◌∷◌, ◌++◌, map, ap, ◌∙◌, sym, subst, Option, Some, None, slice_get, MatchOption, true}
+use Rattle.std.proofs.Common.{◌≡◌, ℕ, suc, zero, List, [], ◌∷◌, ◌++◌, map, ap, ◌∙◌, sym, subst, Some, slice_get, MatchOption}
 use Rattle.std.proofs.lemmas.List.{map-append}
 use Rattle.std.specs.List.{AllByRecursion}
 use Rattle.binding_terms.proofs.Lists.{all_weaker}

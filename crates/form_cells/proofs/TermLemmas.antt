@@ -1,20 +1,19 @@
 -- The readings of a term by their cases.
-use Rattle.std.proofs.Common.{◌≡◌, ◌≢◌, ◌⊎◌, ◌↔◌, ℕ, ◌+◌, ◌-◌, ◌<◌, ◌≤◌, List, [], ◌∷◌, ◌++◌, length, map, inl, inr, refl, ap, ◌∙◌, sym, subst, arith, Some, slice_get, slice_range, length-append}
+use Rattle.std.proofs.Common.{◌≡◌, ◌⊎◌, ◌↔◌, ℕ, ◌+◌, ◌-◌, ◌<◌, ◌≤◌, List, [], ◌∷◌, ◌++◌, length, map, inl, inr, refl, ap, ◌∙◌, sym, subst, arith, Some, slice_get, slice_range, length-append}
 use Rattle.std.proofs.lemmas.Bool.{cases_lt}
 use Rattle.std.proofs.lemmas.List.{append_cancel_right}
 use Rattle.std.proofs.lemmas.Option.{slice_get_within}
 use Rattle.binding_terms.specs.Signature.{Signature}
-use Rattle.binding_terms.specs.declared.grammar.Prod.{Prod}
 use Rattle.scheme_terms.specs.SchemeTree.{SchemeTree, meta, con}
 use Rattle.scheme_terms.specs.declared.scheme.MetaDecl.{MetaDecl}
 use Rattle.rule_schemes.specs.Reading.{Token, word, punctuation, Variable, ReadsTerm, group, metavariable, variable, production}
-use Rattle.rule_schemes.specs.Said.{Way, way, Ways, no_ways, then_way, IsBefore, way_of_term, item_lengths, ways_of_items, bracket_lengths, ways_of_brackets}
+use Rattle.rule_schemes.specs.Said.{Way, way, Ways, no_ways, then_way, IsBefore, way_of_term}
 use Rattle.ordered_readings.specs.Names.{NamesApart}
 use Rattle.ordered_readings.specs.Cells.{ReadsTermAt, ReadsBracketsAt}
 use Rattle.ordered_readings.specs.FirstTwo.{IsOneOf, IsBy, AreInOrder, IsListed, ComesAfterTwo, AreFirst}
 use Rattle.ordered_readings.proofs.FirstTwo.{in_map, of_map}
 use Rattle.ordered_readings.proofs.SamePlace.{name_tells, order_law}
-use Rattle.form_cells.specs.Cells.{IsGroup, IsName, IsNameOf, IsVariable, IsMade, IsProduct, IsReadBelow, around}
+use Rattle.form_cells.specs.Cells.{IsGroup, IsName, IsVariable, IsProduct, IsReadBelow, around}
 use Rattle.form_cells.proofs.Joining.{AreOrdered, IsJoined, joined_first, two_first, same_first, no_first}
 use Rattle.form_cells.proofs.Ranges.{range_length, range_cons, range_end, range_none, range_begins, range_two, range_front}
 

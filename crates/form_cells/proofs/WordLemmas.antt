@@ -1,23 +1,22 @@
 -- What the first item and the tokens that are left tell of a reading of items, and which words stand at binders.
-use Rattle.std.proofs.Common.{◌≡◌, ◌≢◌, ◌⊎◌, ℕ, suc, zero, ◌+◌, ◌<◌, ◌≤◌, List, [], ◌∷◌, ◌++◌, length, map, inl, inr, refl, ap, ◌∙◌, sym, subst, arith, Some, slice_get, Bool, length-append, Result, Ok, Err, IfOk}
+use Rattle.std.proofs.Common.{◌≡◌, ◌≢◌, ℕ, ◌+◌, ◌<◌, ◌≤◌, List, [], ◌∷◌, ◌++◌, length, map, inl, inr, refl, ap, ◌∙◌, sym, subst, arith, Some, slice_get, Bool, length-append, Result, Ok, Err, IfOk}
 use Rattle.std.proofs.lemmas.Bool.{cases_lt}
-use Rattle.std.proofs.lemmas.List.{length-map}
 use Rattle.std.specs.List.{AllByRecursion}
 use Rattle.binding_terms.specs.Numbered.{AnyByRecursion}
-use Rattle.binding_terms.specs.Signature.{Signature, binders}
+use Rattle.binding_terms.specs.Signature.{Signature}
 use Rattle.binding_terms.specs.declared.grammar.CatId.{CatId}
 use Rattle.binding_terms.specs.declared.grammar.Item.{Item}
 use Rattle.binding_terms.specs.declared.grammar.Item.TheVariants.{Word, Slot, Binder}
 use Rattle.scheme_terms.specs.SchemeTree.{Parts}
 use Rattle.scheme_terms.specs.declared.scheme.MetaDecl.{MetaDecl}
-use Rattle.rule_schemes.specs.Reading.{Token, word, Variable, bound, IsTerminal, IsVariableWord, variables_of, ReadsItems, all_read, terminal, binder, slot}
+use Rattle.rule_schemes.specs.Reading.{Token, word, Variable, bound, IsTerminal, IsVariableWord, ReadsItems, all_read, terminal, binder, slot}
 use Rattle.form_cells.specs.Cells.{tokens_of, range_of}
 use Rattle.form_cells.specs.Words.{words_of, AreOwn, AreComplete}
-use Rattle.form_cells.specs.View.{token, variable}
+use Rattle.form_cells.specs.View.{variable}
 use Rattle.form_cells.specs.declared.sheet.Sheet.{Sheet}
 use Rattle.form_cells.specs.declared.variables.Var.{Var}
 use Rattle.form_cells.proofs.Ranges.{range_begins, range_front}
-use Rattle.binding_terms.proofs.Lists.{any_front, any_back, all_append}
+use Rattle.binding_terms.proofs.Lists.{any_front, any_back}
 
 some_length : (ts : List Token) → ts ≢ [] → 0 < length ts
 some_length [] h = absurd (h refl)

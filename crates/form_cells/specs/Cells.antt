@@ -1,6 +1,6 @@
 -- How a range of a form's tokens reads: as a group, a metavariable, a variable or by a production, each at its place in the reading
 -- order, and what a table keeps of it. Held against the relation in rule_schemes/specs/Reading.antt.
-use Rattle.std.specs.Prelude.{◌≡◌, ◌<◌, ◌+◌, ◌⊎◌, ℕ, List, [], ◌∷◌, ◌++◌, map, Some, slice_get, slice_range, MatchOption, Bool, true}
+use Rattle.std.specs.Prelude.{◌≡◌, ◌<◌, ◌+◌, ◌⊎◌, ℕ, List, [], ◌∷◌, ◌++◌, map, Some, slice_get, slice_range, MatchOption, true}
 use Rattle.std.specs.List.{AllByRecursion}
 use Rattle.binding_terms.specs.Signature.{Signature, binders}
 use Rattle.binding_terms.specs.declared.grammar.Prod.{Prod}
@@ -8,11 +8,11 @@ use Rattle.binding_terms.specs.declared.grammar.Item.{Item}
 use Rattle.scheme_terms.specs.SchemeTree.{SchemeTree}
 use Rattle.scheme_terms.specs.declared.scheme.MetaDecl.{MetaDecl}
 use Rattle.rule_schemes.specs.Reading.{Token, punctuation, word, Variable, Means, variables_of}
-use Rattle.rule_schemes.specs.Said.{Way, way, Ways, no_ways, then_way, IsBefore}
+use Rattle.rule_schemes.specs.Said.{Way, way, no_ways, then_way, IsBefore}
 use Rattle.ordered_readings.specs.FirstTwo.{AreFirst}
 use Rattle.ordered_readings.specs.AnswerView.{answers}
 use Rattle.ordered_readings.specs.Cells.{ReadsTermAt, ReadsItemsAt, ReadsBracketsAt, ReadsArgumentsAt}
-use Rattle.form_cells.specs.View.{token, variable, in_scope}
+use Rattle.form_cells.specs.View.{token, in_scope}
 use Rattle.form_cells.specs.declared.sheet.Sheet.{Sheet}
 use Rattle.form_cells.specs.declared.table.Table.{Table}
 use Rattle.form_cells.specs.declared.table.Cell.{Cell}

@@ -1,7 +1,6 @@
-use Rattle.std.proofs.Common.{◌≡◌, ◌+◌, ◌-◌, ◌<◌, ◌≤◌, [], ◌∷◌, map, length, drop, get_or, slice_get, Some, refl, ap, ◌∙◌, sym, subst, true≢false, arith}
+use Rattle.std.proofs.Common.{◌≡◌, ◌+◌, ◌<◌, ◌≤◌, ◌∷◌, map, length, drop, get_or, slice_get, Some, refl, ap, ◌∙◌, sym, subst, true≢false, arith}
 use Rattle.std.proofs.lemmas.List.{drop_all}
 use Rattle.binding_terms.specs.Signature.{binders}
-use Rattle.binding_terms.specs.declared.grammar.Item.TheVariants.{Word, Slot, Binder}
 use Rattle.binding_terms.proofs.Lists.{drop_from, get_mapped_or, all_append}
 use Rattle.rule_schemes.specs.Reading.{word}
 use Rattle.form_cells.specs.Cells.{tokens_of}

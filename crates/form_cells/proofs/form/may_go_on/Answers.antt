@@ -1,9 +1,9 @@
 use Rattle.std.proofs.Common.{◌≡◌, ◌+◌, ◌-◌, ◌<◌, ◌≤◌, nat_eq, IsTrue, [], ◌∷◌, length, drop, get_or, slice_get, Some, ap, ◌∙◌, sym, subst, true≢false, arith, length-drop}
-use Rattle.std.proofs.lemmas.List.{length-map, drop_all}
+use Rattle.std.proofs.lemmas.List.{drop_all}
 use Rattle.std.proofs.lemmas.Bool.Decides.{nat_tests}
 use Rattle.binding_terms.proofs.Lists.{drop_from, get_mapped_or}
 use Rattle.rule_schemes.specs.Reading.{IsTerminal}
-use Rattle.form_cells.specs.Cells.{tokens_of, range_of}
+use Rattle.form_cells.specs.Cells.{tokens_of}
 use Rattle.form_cells.specs.View.{token}
 use Rattle.form_cells.proofs.Ranges.{range_length, range_begins}
 use Rattle.form_cells.proofs.Tokens.{no_token, seen}

@@ -1,31 +1,30 @@
-use Rattle.std.proofs.Common.{◌≡◌, ◌≢◌, ◌⊎◌, ◌+◌, ◌-◌, ◌<◌, ◌≤◌, ℕ, List, [], ◌∷◌, ◌++◌, length, map, take, drop, get_or, slice_get, slice_range, Some, refl, inl, inr, ap, ◌∙◌, sym, subst, true≢false, arith, length-drop}
-use Rattle.std.proofs.lemmas.List.{length-map, take_all, drop_all, drop_more}
+use Rattle.std.proofs.Common.{◌≡◌, ◌+◌, ◌-◌, ◌<◌, ◌≤◌, [], ◌∷◌, length, map, drop, get_or, slice_get, Some, refl, inl, inr, ap, ◌∙◌, sym, subst, true≢false, arith, length-drop}
+use Rattle.std.proofs.lemmas.List.{take_all, drop_all, drop_more}
 use Rattle.std.proofs.lemmas.Option.{slice_get_read, slice_get-get_or, slice_get_within}
 use Rattle.std.proofs.lemmas.Bool.{cases_lt}
 use Rattle.scheme_terms.specs.declared.scheme.MetaDecl.{MetaDecl}
-use Rattle.binding_terms.proofs.Lists.{all_at, drop_from, drop_next, get_mapped_or, some_once}
-use Rattle.binding_terms.specs.Signature.{binders, ProdFits}
-use Rattle.binding_terms.specs.Numbered.{AnyByRecursion}
+use Rattle.binding_terms.proofs.Lists.{all_at, drop_next, get_mapped_or, some_once}
+use Rattle.binding_terms.specs.Signature.{ProdFits}
 use Rattle.binding_terms.specs.declared.grammar.Item.TheVariants.{Word, Slot, Binder}
-use Rattle.rule_schemes.specs.Reading.{Token, word, punctuation, IsTerminal, IsVariableWord, slot_variables}
+use Rattle.rule_schemes.specs.Reading.{Token, word, punctuation, IsTerminal, IsVariableWord}
 use Rattle.scheme_terms.specs.SchemeTree.{meta, no_values}
 use Rattle.rule_schemes.specs.Said.{IsBefore, way, no_ways}
 use Rattle.ordered_readings.specs.AnswerView.{answers}
 use Rattle.ordered_readings.specs.Cells.{ReadsTermAt, ReadsItemsAt, ReadsBracketsAt, ReadsArgumentsAt, TakesFirst, TakesFewer}
 use Rattle.ordered_readings.specs.FirstTwo.{AreFirst}
-use Rattle.form_cells.specs.Cells.{tokens_of, range_of, Follows, IsGroup, IsName, IsProduct, IsReadBelow}
-use Rattle.form_cells.specs.Words.{words_of, AreOwn}
+use Rattle.form_cells.specs.Cells.{tokens_of, range_of, IsGroup}
+use Rattle.form_cells.specs.Words.{words_of}
 use Rattle.form_cells.specs.View.{token, variable, in_scope}
 use Rattle.form_cells.proofs.Joining.{no_first, none_listed}
-use Rattle.form_cells.proofs.Ranges.{range_length, range_cons, range_end, range_none, range_begins, range_two, range_some}
+use Rattle.form_cells.proofs.Ranges.{range_length, range_cons, range_end, range_begins}
 use Rattle.form_cells.proofs.Tokens.{no_token, seen}
 use Rattle.form_cells.proofs.VariableLemmas.{no_variable}
 use Rattle.binding_terms.specs.declared.grammar.CatId.{CatId}
-use Rattle.form_cells.proofs.WordLemmas.{if_ok}
+use Rattle.form_cells.proofs.WordLemmas.{if_ok, enough_tokens}
 use Rattle.form_cells.proofs.TermLemmas.{group_short, no_group, group_in_range, no_name, same_name, name_read, no_product, product_joined, read_enough, all_read_terms}
 use Rattle.form_cells.proofs.ArgumentLemmas.{arguments_more, no_length, all_lengths, no_arguments, no_brackets_read, brackets_of_none, no_bracket, brackets_read, comma_behind, bracket_behind, nothing_behind, argument_in_range, no_argument}
 use Rattle.form_cells.proofs.RowLemmas.{end_told, none_short, terminal_not, terminal_read, binder_not, binder_read, no_slot, slot_more, slot_lengths, slot_enough, slot_in_range, no_slot_read, no_rest_read, no_binds, two_or_more, single_slot, range_same, no_words_left, words_left}
-use Rattle.form_cells.proofs.ProductLemmas.{still, later, on_any, on_ok, none_listed_yet, one_list_more, no_product_of, no_made, all_lists}
+use Rattle.form_cells.proofs.ProductLemmas.{still, later, on_any, on_ok, one_list_more, no_product_of, no_made, all_lists}
 use Rattle.form_cells.proofs.reader.+cells.Goals as goal
 
 pub group-returns-then-to-from-lt2-clause-first : goal.group-returns-then-to-from-lt2-clause-first
@@ -511,6 +510,19 @@ in_slot-returns-clause-first t c = rw (c.as_slice-vars.ensures, c.in_ok-inner.en
 
 pub in_slot-returns-clause-table : goal.in_slot-returns-clause-table
 in_slot-returns-clause-table t c = on_ok c.cell-2.result _ _ (λ f. later c.in_ok-number.ensures.follows f) c.cell-2.ensures.table
+
+pub slot_to-returns-then-to-end-clause-first : goal.slot_to-returns-then-to-end-clause-first
+slot_to-returns-then-to-end-clause-first t c =
+    let sheet = c.args.sheet.now in
+    let form = c.args.form.now in
+    let vars = in_scope c.args.scope.now.vars.now in
+    let own = map variable form.own.now in
+    let words = words_of (drop c.args.word form.words.now) in
+    let short = c.if-to-end.true in
+    let long = range_length (tokens_of sheet) c.args.end c.args.to c.requires.range.1 (seen sheet c.args.to c.requires.range.2) in
+    no_rest_read sheet.sig.now sheet.metas.now vars own words form.alternative form.prod.0 c.args.cat c.args.binds.now (drop c.args.at form.items.now) (tokens_of sheet) c.args.from c.args.end c.args.to
+    c.requires.range.0 c.requires.range.1 (seen sheet c.args.to c.requires.range.2)
+    (λ xs r. omega (arith, short, long, enough_tokens r, length-drop c.args.at form.items.now))
 
 pub slot_to-returns-then-not-may_go_on-clause-first : goal.slot_to-returns-then-not-may_go_on-clause-first
 slot_to-returns-then-not-may_go_on-clause-first t c =

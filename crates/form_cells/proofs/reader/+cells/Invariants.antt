@@ -1,4 +1,4 @@
-use Rattle.std.proofs.Common.{◌≡◌, ◌+◌, ◌-◌, ◌*◌, ◌<◌, ℕ, List, map, take, drop, slice_get, Some, ◌∷◌}
+use Rattle.std.proofs.Common.{◌≡◌, ◌+◌, ◌-◌, ◌*◌, ◌<◌, ℕ, map, take, drop, slice_get, Some, ◌∷◌}
 use Rattle.binding_terms.specs.Numbered.{AnyByRecursion}
 use Rattle.binding_terms.specs.declared.grammar.Item.TheVariants.{Slot}
 use Rattle.scheme_terms.specs.declared.scheme.MetaDecl.{MetaDecl}

@@ -1,4 +1,3 @@
-use Rattle.form_cells.proofs.WordLemmas.{if_ok}
 use Rattle.form_cells.proofs.ProductLemmas.{on_ok}
 use Rattle.form_cells.proofs.reader.terms.Goals as goal
 

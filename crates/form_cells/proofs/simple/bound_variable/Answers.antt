@@ -1,5 +1,4 @@
-use Rattle.std.proofs.Common.{◌≡◌, ◌≢◌, ◌-◌, ◌<◌, ◌≤◌, length, get_or, Some, slice_get, ap, ◌∙◌, sym, true≢false, arith}
-use Rattle.std.proofs.lemmas.List.{length-map}
+use Rattle.std.proofs.Common.{◌≡◌, ◌≢◌, ◌-◌, ◌<◌, length, get_or, Some, slice_get, ap, ◌∙◌, sym, true≢false, arith}
 use Rattle.scheme_terms.specs.SchemeTree.{no_parts}
 use Rattle.ordered_readings.specs.NodeView.{made}
 use Rattle.ordered_readings.proofs.NodeEquations.{reading-Made, row-End}

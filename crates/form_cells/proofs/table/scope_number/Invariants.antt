@@ -1,4 +1,3 @@
-use Rattle.std.proofs.Common.{◌≡◌}
 use Rattle.form_cells.proofs.table.scope_number.Given as goal
 
 abbrev pub invariant-loop-i : goal.invariant-loop-i

@@ -1,5 +1,4 @@
-use Rattle.std.proofs.Common.{◌≡◌, ◌↔◌, ◌+◌, ◌-◌, ◌<◌, ◌≤◌, inl, inr, length, get_or, take, ap, ◌∙◌, sym, subst, true≢false, arith}
-use Rattle.scheme_terms.specs.SchemeTree.{SchemeTree}
+use Rattle.std.proofs.Common.{◌≡◌, ◌+◌, ◌-◌, ◌<◌, ◌≤◌, inl, inr, length, get_or, take, ◌∙◌, sym, subst, true≢false, arith}
 use Rattle.rule_schemes.specs.Reading.{Means, counted}
 use Rattle.form_cells.specs.View.{meaning, variable, in_scope}
 use Rattle.form_cells.proofs.VariableLemmas.{scope_last, innermost_is, innermost_not, counts_one, counts_none, no_variable}
