@@ -1,6 +1,4 @@
 // The readings of contexts that leave given variables in scope, cell by cell.
-#![tactic(none)]
-
 ghost use Rattle.std.specs.Prelude.{◌≡◌, ◌<◌, ◌≤◌, ◌+◌, ◌-◌, ℕ, IfOk, OnOk, IsTrue, MatchOption, [], ◌∷◌, length, take, drop};
 ghost use Rattle.std.specs.List.{list_all};
 ghost use Rattle.binding_terms.specs.Signature.{is_word};
@@ -135,6 +133,7 @@ fn entered_at<'a>(
     requires apart { KnownsApart (reading_scope outside.now.scope.now).names.knowns }
     requires outside { IsOutside sheet.now outside.now }
     requires table { IsTable sheet.now table.old }
+    requires prod { IsProdOf sheet.now.sig.now p outside.now.cat.0 items.now }
     requires innermost { IsInnermost binder.0 vars.now }
     requires entry { IsEntryOver outside.now.cat.0 binder.0 items.now }
     requires range { (from ≤ place) × (place ≤ to) × (to ≤ length sheet.now.tokens.now) }

@@ -1,0 +1,4 @@
+pub mod TreeOrder
+pub mod ContextCases
+pub mod EntryLemmas
+pub mod Tests
