@@ -42,29 +42,38 @@ module _ (sig : Signature) (scope : ReadingScope) (metas : List MetaDecl) (c : â
       inr (p, slice_get_within sig.prods p prod found, (prod, found, of, inl (empty, (refl, refl, refl, refl, r))))
   reading_by (entry p {b = b} {items = items} {first = first} {rest = rest} {w = name} {xs = xs} {ctx = ctx} {vars = vars} {written = ks} form split x r) e =
       let q = match_some (slice_get sig.prods p) _ form in
-      inr (p, slice_get_within sig.prods p q.0 q.1, (q.0, q.1, q.2.0, inr (record {
-        binder = b;
-        id = (q.2.1).0;
-        binds = (q.2.1).1;
-        items = items;
-        form = (q.2.1).2;
-        over = (q.2.1).3;
-        one = q.2.2;
-        name = name;
-        before = vars;
-        last = refl;
-        first = first;
-        rest = rest;
-        split = split;
-        first_way = way_of_context x;
-        shorter = tree_of x;
-        rest_way = way (1 + p) (item_lengths r) (ways_of_items r);
-        parts = con p xs;
-        context = (ctx, ks, x, e, refl, refl);
-        entry = (xs, r, refl, refl);
-        way_is = refl;
-        tree_is = refl;
-      })))
+      inr (
+        p,
+        slice_get_within sig.prods p q.0 q.1,
+        (
+          q.0,
+          q.1,
+          q.2.0,
+          inr (record {
+            binder = b;
+            id = (q.2.1).0;
+            binds = (q.2.1).1;
+            items = items;
+            form = (q.2.1).2;
+            over = (q.2.1).3;
+            one = q.2.2;
+            name = name;
+            before = vars;
+            last = refl;
+            first = first;
+            rest = rest;
+            split = split;
+            first_way = way_of_context x;
+            shorter = tree_of x;
+            rest_way = way (1 + p) (item_lengths r) (ways_of_items r);
+            parts = con p xs;
+            context = (ctx, ks, x, e, refl, refl);
+            entry = (xs, r, refl, refl);
+            way_is = refl;
+            tree_is = refl;
+          }),
+        ),
+      )
   reading_by (known_entry p b n f s h i k r j named is) e = absurd (cc)
   reading_by (head_entry f s h i k r j) e = absurd (cc)
 

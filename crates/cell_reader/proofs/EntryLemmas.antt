@@ -234,10 +234,13 @@ module _ (sig : Signature) (scope : ReadingScope) (metas : List MetaDecl) (c : �
         → AreFirst IsBefore (IsContextBy sig scope metas p c vs [] ts) xs
     by_empty of words xs f =
         same_first (IsEmptyOf sig scope metas p prod.items vs [] ts) (IsContextBy sig scope metas p c vs [] ts) xs
-        (λ w s. (λ h. (prod, found, of, inl (words, h)), λ h. elim (by_this w s h) [
-          | inl k ↦ k.1
-          | inr k ↦ absurd (no_slot_alone k.id k.binds k.items prod.items k.form words)
-        ])) f
+        (λ w s. (
+          λ h. (prod, found, of, inl (words, h)),
+          λ h. elim (by_this w s h) [
+            | inl k ↦ k.1
+            | inr k ↦ absurd (no_slot_alone k.id k.binds k.items prod.items k.form words)
+          ],
+        )) f
 
     pub by_entry : prod.cat.0 ≡ c → (IsTrue (list_all is_word prod.items) → ⊥) → (xs : List (Way × SchemeTree))
         → AreFirst IsBefore (IsEntryOf sig scope metas p c prod.items vs [] ts) xs → AreFirst IsBefore (IsContextBy sig scope metas p c vs [] ts) xs

@@ -1,15 +1,19 @@
 -- What variables in scope and tokens are tested for.
-use Rattle.std.proofs.Common.{◌≡◌, ◌⊎◌, ℕ, ◌+◌, ◌-◌, ◌<◌, ◌≤◌, List, [], ◌∷◌, ◌++◌, map, length, take, drop, reverse, get_or, inl, inr, refl, ap, ◌∙◌, sym, subst, arith, Some, slice_get, slice_range}
-use Rattle.std.proofs.lemmas.List.{map-append, reverse-append, take_more, take_all, take_at, drop_at, drop_more, drop_all, length-append}
+use Rattle.std.proofs.Common.{◌≡◌, ◌≢◌, ◌↔◌, ◌⊎◌, Bool, true, false, true≢false, IsTrue, Option, MatchOption, ℕ, ◌+◌, ◌-◌, ◌<◌, ◌≤◌, List, [], ◌∷◌, ◌++◌, map, length, take, drop, reverse, get_or, inl, inr, refl, ap, ◌∙◌, sym, subst, arith, Some, slice_get, slice_range}
+use Rattle.std.proofs.lemmas.List.{map-append, reverse-append, take_more, take_all, take_at, drop_at, drop_more, drop_all, length-append, reverse-reverse, get_or-map}
 use Rattle.binding_terms.specs.declared.grammar.CatId.{CatId}
-use Rattle.binding_terms.proofs.Lists.{same_last}
-use Rattle.rule_schemes.specs.Reading.{Variable, Meaning, bound, entry_of}
+use Rattle.binding_terms.specs.declared.grammar.Cat.{Cat}
+use Rattle.binding_terms.specs.Signature.{Signature}
+use Rattle.binding_terms.proofs.Lists.{same_last, same_at, same_length}
+use Rattle.rule_schemes.specs.Reading.{Token, word, Variable, Meaning, bound, entry_of}
 use Rattle.form_cells.specs.View.{meaning, variable, in_scope}
 use Rattle.form_cells.specs.Words.{words_of}
 use Rattle.form_cells.specs.declared.variables.Meaning as meanings
 use Rattle.form_cells.specs.declared.variables.Meaning.TheVariants.{Bound, Entry}
 use Rattle.form_cells.specs.declared.variables.Var.{Var}
+use Rattle.form_cells.proofs.Ranges.{range_cons, range_none}
 use Rattle.form_cells.proofs.VariableLemmas.{no_variable}
+use Rattle.cell_reader.specs.Contexts.{IsCategoryName}
 use Rattle.cell_reader.specs.Outside.{IsInnermost}
 
 scope_more : (all : List Var) (v : Var) → in_scope (all ++ v ∷ []) ≡ variable v ∷ in_scope all
@@ -78,3 +82,39 @@ no_innermost vars v k cat some is other (front, u, parted, at, local) =
 
 pub none_innermost : (vars : List Var) (cat : ℕ) → length vars ≡ 0 → IsInnermost cat vars → ⊥
 none_innermost vars cat none i = let some = some_vars vars cat i in omega (arith, none, some)
+
+pub other_length : (sig : Signature) (c : ℕ) (us : List Token) → length us ≢ 1 → IsTrue false ↔ IsCategoryName sig c us
+other_length sig c us h = (λ e. absurd (true≢false (sym e)), λ k. absurd (h (ap length k.1)))
+
+-- the exact name of a category, by the one token that there is
+pub one_name : (sig : Signature) (c : ℕ) (ts : List Token) (from to : ℕ) (t : Token) (found : Cat) (r : Bool) → from ≤ to → to ≤ length ts → to - from ≡ 1 → slice_get ts from ≡ Some t
+    → slice_get sig.cats c ≡ Some found → (IsTrue r ↔ (t ≡ word found.name)) → IsTrue r ↔ IsCategoryName sig c (slice_range ts from to)
+one_name sig c ts from to t found r start within one here cat is = (there, back)
+  where
+    alone : slice_range ts from to ≡ t ∷ []
+    alone =
+        let lt : from < to = omega (arith, one) in
+        let end : from + 1 ≡ to = omega (arith, one, start) in
+        range_cons ts from to t lt within here ∙ ap (λ us. t ∷ us) (ap (λ m. slice_range ts m to) end ∙ range_none ts to within)
+
+    there : IsTrue r → IsCategoryName sig c (slice_range ts from to)
+    there e = (found.name, alone ∙ ap (λ u. u ∷ []) (is.0 e), subst (λ (o : Option Cat). MatchOption o ⊥ (λ k. k.name ≡ found.name)) (sym cat) refl)
+
+    back : IsCategoryName sig c (slice_range ts from to) → IsTrue r
+    back h =
+        let two : t ∷ [] ≡ word h.0 ∷ [] = sym alone ∙ h.1 in
+        let same : t ≡ word h.0 = cc in
+        is.1 (same ∙ sym (ap word (subst (λ (o : Option Cat). MatchOption o ⊥ (λ k. k.name ≡ h.0)) cat h.2)))
+
+-- scopes in which one variable differs
+pub scopes_apart : (one other : List Var) (i : ℕ) → i < length one → i < length other → (variable (get_or one i no_variable) ≡ variable (get_or other i no_variable) → ⊥)
+    → in_scope one ≡ in_scope other → ⊥
+scopes_apart one other i h k not e =
+    let same : map variable one ≡ map variable other = sym (reverse-reverse (map variable one)) ∙ ap reverse e ∙ reverse-reverse (map variable other) in
+    let d = variable no_variable in
+    not (sym (get_or-map variable one i no_variable d h) ∙ ap (λ vs. get_or vs i d) same ∙ get_or-map variable other i no_variable d k)
+
+pub scopes_longer : (one other : List Var) → (length one ≡ length other → ⊥) → in_scope one ≡ in_scope other → ⊥
+scopes_longer one other not e =
+    let same : map variable one ≡ map variable other = sym (reverse-reverse (map variable one)) ∙ ap reverse e ∙ reverse-reverse (map variable other) in
+    not (same_length variable one other same)
