@@ -1,5 +1,5 @@
 -- The readings of a context by their cases.
-use Rattle.std.proofs.Common.{◌≡◌, ◌⊎◌, ◌↔◌, ℕ, ◌+◌, ◌<◌, ◌≤◌, IsTrue, List, [], ◌∷◌, ◌++◌, map, length, inl, inr, refl, ap, ◌∙◌, sym, subst, arith, Some, slice_get}
+use Rattle.std.proofs.Common.{◌≡◌, ◌⊎◌, ℕ, ◌+◌, ◌<◌, ◌≤◌, IsTrue, List, [], ◌∷◌, map, length, inl, inr, refl, ap, ◌∙◌, sym, subst, arith, Some, slice_get}
 use Rattle.std.specs.List.{list_all}
 use Rattle.std.proofs.lemmas.Bool.{cases_lt}
 use Rattle.std.proofs.lemmas.Option.{slice_get_within}
@@ -9,18 +9,17 @@ use Rattle.binding_terms.specs.declared.grammar.Item.{Item}
 use Rattle.binding_terms.specs.declared.grammar.Item.TheVariants.{Slot}
 use Rattle.binding_terms.specs.declared.grammar.Prod.{Prod}
 use Rattle.binding_terms.proofs.Lists.{match_some, match_from}
-use Rattle.scheme_terms.specs.SchemeTree.{SchemeTree, known, local, con, part}
+use Rattle.scheme_terms.specs.SchemeTree.{SchemeTree, known, local, con}
 use Rattle.scheme_terms.specs.Forms.{SchemeContext, KnownVariable}
 use Rattle.scheme_terms.specs.declared.scheme.MetaDecl.{MetaDecl}
 use Rattle.scheme_terms.specs.declared.scheme.Root.TheVariants.{Whole, Empty}
-use Rattle.rule_schemes.specs.Reading.{Token, word, Variable, bound, ReadingScope, known_words, with_root, IsNameOf, IsEntryForm, ReadsItems, ReadsContext, root, empty_form, entry, known_entry, head_entry}
-use Rattle.rule_schemes.specs.Said.{Way, way, no_ways, then_way, IsBefore, item_lengths, ways_of_items, way_of_context}
+use Rattle.rule_schemes.specs.Reading.{Token, word, Variable, ReadingScope, known_words, with_root, IsEntryForm, ReadsContext, root, empty_form, entry, known_entry, head_entry}
+use Rattle.rule_schemes.specs.Said.{Way, way, no_ways, IsBefore, item_lengths, ways_of_items, way_of_context}
 use Rattle.ordered_readings.specs.Names.{NamesApart}
 use Rattle.ordered_readings.specs.AnswerView.{slot_place, with_first}
-use Rattle.ordered_readings.specs.Cells.{ReadsItemsAt}
 use Rattle.ordered_readings.specs.FirstTwo.{AreFirst}
 use Rattle.form_readings.specs.Forms.{KnownsApart}
-use Rattle.form_cells.proofs.Joining.{AreOrdered, IsJoined, joined_first, same_first, no_first}
+use Rattle.form_cells.proofs.Joining.{IsJoined, joined_first, same_first}
 use Rattle.cell_reader.specs.Contexts.{tree_of, ReadsContextAs, IsRoot, IsEmptyOf, IsEntryOf, IsContextBy, IsContextBelow}
 use Rattle.cell_reader.proofs.TreeOrder.{trees_ordered}
 

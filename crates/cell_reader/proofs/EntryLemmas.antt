@@ -1,7 +1,6 @@
 -- The first readings with an entry, behind a shorter context of any length, and of the other forms of a context.
-use Rattle.std.proofs.Common.{◌≡◌, ◌≢◌, ◌⊎◌, ◌↔◌, ℕ, ◌+◌, ◌-◌, ◌<◌, ◌≤◌, IsTrue, List, [], ◌∷◌, ◌++◌, map, length, take, drop, inl, inr, refl, ap, ◌∙◌, sym, subst, arith, Some, slice_get, slice_range, length-append}
+use Rattle.std.proofs.Common.{◌≡◌, ◌⊎◌, ℕ, ◌+◌, ◌-◌, ◌<◌, ◌≤◌, IsTrue, List, [], ◌∷◌, ◌++◌, length, drop, inl, inr, refl, ap, ◌∙◌, sym, subst, arith, Some, slice_get, slice_range, length-append}
 use Rattle.std.specs.List.{list_all}
-use Rattle.std.proofs.lemmas.Bool.{cases_lt}
 use Rattle.binding_terms.specs.Signature.{Signature, binders, is_word}
 use Rattle.binding_terms.specs.declared.grammar.CatId.{CatId}
 use Rattle.binding_terms.specs.declared.grammar.Item.{Item}

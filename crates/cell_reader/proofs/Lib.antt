@@ -2,3 +2,4 @@ pub mod TreeOrder
 pub mod ContextCases
 pub mod EntryLemmas
 pub mod Tests
+pub mod KnownWords

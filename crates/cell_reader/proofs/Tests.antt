@@ -1,11 +1,10 @@
 -- What variables in scope and tokens are tested for.
-use Rattle.std.proofs.Common.{◌≡◌, ◌≢◌, ◌↔◌, ◌⊎◌, Bool, true, false, true≢false, IsTrue, Option, MatchOption, ℕ, ◌+◌, ◌-◌, ◌<◌, ◌≤◌, List, [], ◌∷◌, ◌++◌, map, length, take, drop, reverse, get_or, inl, inr, refl, ap, ◌∙◌, sym, subst, arith, Some, slice_get, slice_range}
-use Rattle.std.proofs.lemmas.List.{map-append, reverse-append, take_more, take_all, take_at, drop_at, drop_more, drop_all, length-append, reverse-reverse, get_or-map}
-use Rattle.binding_terms.specs.declared.grammar.CatId.{CatId}
+use Rattle.std.proofs.Common.{◌≡◌, ◌≢◌, ◌↔◌, Bool, false, true≢false, IsTrue, Option, MatchOption, ℕ, ◌+◌, ◌-◌, ◌<◌, ◌≤◌, List, [], ◌∷◌, ◌++◌, map, length, take, drop, reverse, get_or, refl, ap, ◌∙◌, sym, subst, arith, Some, slice_get, slice_range}
+use Rattle.std.proofs.lemmas.List.{map-append, reverse-append, take_more, take_all, take_at, drop_at, length-append, reverse-reverse, get_or-map}
 use Rattle.binding_terms.specs.declared.grammar.Cat.{Cat}
 use Rattle.binding_terms.specs.Signature.{Signature}
-use Rattle.binding_terms.proofs.Lists.{same_last, same_at, same_length}
-use Rattle.rule_schemes.specs.Reading.{Token, word, Variable, Meaning, bound, entry_of}
+use Rattle.binding_terms.proofs.Lists.{same_last, same_length}
+use Rattle.rule_schemes.specs.Reading.{Token, word, Variable, bound}
 use Rattle.form_cells.specs.View.{meaning, variable, in_scope}
 use Rattle.form_cells.specs.Words.{words_of}
 use Rattle.form_cells.specs.declared.variables.Meaning as meanings

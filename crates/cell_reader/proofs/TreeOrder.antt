@@ -1,5 +1,5 @@
 -- Two readings of the same tokens as a context: one is before the other, or both are at one place and are kept as the same.
-use Rattle.std.proofs.Common.{◌≡◌, ◌⊎◌, ℕ, ◌+◌, ◌<◌, List, [], ◌∷◌, map, length, inl, inr, refl, ap, ◌∙◌, sym, subst, arith, Some, slice_get}
+use Rattle.std.proofs.Common.{◌≡◌, ℕ, ◌+◌, ◌<◌, List, ◌∷◌, length, inl, inr, refl, ap, ◌∙◌, sym, subst, arith, slice_get}
 use Rattle.std.proofs.lemmas.Option.{slice_get_within}
 use Rattle.binding_terms.specs.Signature.{Signature}
 use Rattle.binding_terms.specs.declared.grammar.Item.{Item}
@@ -8,10 +8,9 @@ use Rattle.scheme_terms.specs.SchemeTree.{SchemeTree, meta, con, Parts, part}
 use Rattle.scheme_terms.specs.Forms.{SchemeContext, KnownVariable}
 use Rattle.scheme_terms.specs.declared.scheme.MetaDecl.{MetaDecl}
 use Rattle.rule_schemes.specs.Reading.{Token, word, Variable, ReadingScope, IsEntryForm, ReadsContext, root, empty_form, entry, known_entry, head_entry}
-use Rattle.rule_schemes.specs.Said.{Way, IsBefore, item_lengths, ways_of_items, way_of_context}
+use Rattle.rule_schemes.specs.Said.{IsBefore, item_lengths, ways_of_items, way_of_context}
 use Rattle.ordered_readings.specs.Names.{NamesApart}
 use Rattle.ordered_readings.specs.NodeView.{values_of}
-use Rattle.ordered_readings.proofs.Comparing.{Compared}
 use Rattle.ordered_readings.proofs.SamePlace.{alternative, lengths, inner, same_items}
 use Rattle.form_readings.specs.Forms.{KnownsApart}
 use Rattle.form_readings.proofs.ContextOrder.{contexts_compare, same_contexts, same_entry, empty_is_no_entry, other_alternative, first_length, first_way}

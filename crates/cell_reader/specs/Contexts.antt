@@ -6,7 +6,7 @@ use Rattle.binding_terms.specs.declared.grammar.CatId.{CatId}
 use Rattle.binding_terms.specs.declared.grammar.Item.{Item}
 use Rattle.binding_terms.specs.declared.grammar.Item.TheVariants.{Slot}
 use Rattle.binding_terms.specs.declared.grammar.Prod.{Prod}
-use Rattle.scheme_terms.specs.SchemeTree.{SchemeTree, meta, known, local, con, Parts, no_parts, part}
+use Rattle.scheme_terms.specs.SchemeTree.{SchemeTree, meta, known, local, con, no_parts, part}
 use Rattle.scheme_terms.specs.Forms.{SchemeContext, KnownVariable}
 use Rattle.scheme_terms.specs.declared.scheme.MetaDecl.{MetaDecl}
 use Rattle.rule_schemes.specs.Reading.{Token, word, Variable, bound, ReadingScope, known_words, with_root, IsNameOf, ReadsItems, ReadsContext, root, empty_form, entry, known_entry, head_entry}

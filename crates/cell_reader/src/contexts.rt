@@ -1,8 +1,7 @@
 // The readings of contexts that leave given variables in scope, cell by cell.
-ghost use Rattle.std.specs.Prelude.{◌≡◌, ◌<◌, ◌≤◌, ◌+◌, ◌-◌, ℕ, IfOk, OnOk, IsTrue, MatchOption, [], ◌∷◌, length, take, drop};
+ghost use Rattle.std.specs.Prelude.{◌≡◌, ◌<◌, ◌≤◌, ◌+◌, ◌-◌, ℕ, IfOk, OnOk, IsTrue, MatchOption, [], length};
 ghost use Rattle.std.specs.List.{list_all};
 ghost use Rattle.binding_terms.specs.Signature.{is_word};
-ghost use Rattle.rule_schemes.specs.Reading.{known_words, with_root};
 ghost use Rattle.rule_schemes.specs.Said.{IsBefore};
 ghost use Rattle.ordered_readings.specs.Names.{NamesApart};
 ghost use Rattle.ordered_readings.specs.FirstTwo.{AreFirst};
@@ -10,7 +9,7 @@ ghost use Rattle.ordered_readings.specs.AnswerView.{answers};
 ghost use Rattle.ordered_readings.specs.Cells.{TakesFirst};
 ghost use Rattle.form_readings.specs.Forms.{KnownsApart};
 ghost use Rattle.form_cells.specs.Cells.{range_of, IsTable};
-ghost use Rattle.form_cells.specs.View.{variable, in_scope};
+ghost use Rattle.form_cells.specs.View.{in_scope};
 ghost use Rattle.cell_reader.specs.View.{reading_scope};
 ghost use Rattle.cell_reader.specs.Contexts.{ReadsContextAs, IsRoot, IsEmptyOf, IsEntryOf, IsEntryOver, IsContextBy};
 ghost use Rattle.cell_reader.specs.Outside.{IsOutside, IsInnermost, IsProdOf};

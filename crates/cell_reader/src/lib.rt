@@ -2,6 +2,8 @@
 #![tactic(auto)]
 
 mod contexts;
+mod knowns;
 mod testing;
 
 pub use contexts::{Outside, context};
+pub use knowns::{known_variables, rooted_variables, with_knowns};

@@ -1,5 +1,5 @@
 // What items, tokens and variables are tested for.
-ghost use Rattle.std.specs.Prelude.{◌≡◌, ◌↔◌, ◌<◌, ◌≤◌, IsTrue, [], ◌∷◌, map, length, drop};
+ghost use Rattle.std.specs.Prelude.{◌≡◌, ◌↔◌, ◌≤◌, ℕ, List, IsTrue, [], ◌∷◌, length, drop};
 ghost use Rattle.std.specs.List.{list_all};
 ghost use Rattle.binding_terms.specs.Signature.{binders, is_word};
 ghost use Rattle.form_cells.specs.View.{variable, in_scope};
@@ -58,7 +58,7 @@ fn one_binder(items: &[Item], at: usize, cat: CatId) -> bool
 }
 
 fn is_slot_of(cat: CatId, item: &Item) -> bool
-    ensures { IsTrue result ↔ ((id : CatId) × (binds : Rattle.std.specs.Prelude.List Rattle.std.specs.Prelude.ℕ) × (item.now ≡ Item.Slot id binds) × (id.0 ≡ cat.0)) }
+    ensures { IsTrue result ↔ ((id : CatId) × (binds : List ℕ) × (item.now ≡ Item.Slot id binds) × (id.0 ≡ cat.0)) }
 {
     match item {
         Item::Word { text: _, quoted: _ } => false,

@@ -1,20 +1,15 @@
-use Rattle.std.proofs.Common.{◌≡◌, ◌+◌, ◌-◌, ◌<◌, ◌≤◌, ℕ, [], ◌∷◌, length, take, drop, Some, slice_get, refl, ap, ◌∙◌, sym, subst, true≢false, arith, length-take}
+use Rattle.std.proofs.Common.{◌≡◌, ◌+◌, ◌-◌, ◌<◌, ◌≤◌, [], ◌∷◌, length, take, drop, Some, slice_get, refl, ap, ◌∙◌, sym, true≢false, arith, length-take}
 use Rattle.std.proofs.lemmas.Option.{slice_get_read}
-use Rattle.rule_schemes.specs.Said.{IsBefore}
 use Rattle.ordered_readings.specs.AnswerView.{answers}
-use Rattle.ordered_readings.specs.Cells.{ReadsItemsAt, TakesFirst}
-use Rattle.ordered_readings.specs.FirstTwo.{AreFirst}
+use Rattle.ordered_readings.specs.Cells.{ReadsItemsAt}
 use Rattle.form_cells.specs.Cells.{tokens_of, range_of}
 use Rattle.form_cells.specs.View.{in_scope}
-use Rattle.form_cells.specs.Words.{words_of}
 use Rattle.form_cells.proofs.Joining.{none_listed}
 use Rattle.form_cells.proofs.ProductLemmas.{on_any}
 use Rattle.form_cells.proofs.Ranges.{range_length}
 use Rattle.form_cells.proofs.Tokens.{seen}
 use Rattle.form_cells.proofs.WordLemmas.{if_ok}
 use Rattle.cell_reader.specs.View.{reading_scope}
-use Rattle.cell_reader.specs.Contexts.{IsEntryOf, IsEntryOver, IsContextBy}
-use Rattle.cell_reader.specs.Outside.{IsInnermost, IsProdOf}
 use Rattle.cell_reader.proofs.ContextCases.{root_below, below_more, below_read}
 use Rattle.cell_reader.proofs.EntryLemmas.{no_entry_yet, all_entries, one_place_more, entry_in_range, no_entry_in_range, of_no_category, by_empty, by_entry, by_none}
 use Rattle.cell_reader.proofs.Tests.{innermost_split, scope_innermost, same_innermost, some_vars}

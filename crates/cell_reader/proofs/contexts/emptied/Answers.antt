@@ -1,4 +1,4 @@
-use Rattle.std.proofs.Common.{◌≡◌, ◌+◌, [], refl, ap, ◌∙◌, sym, subst, true≢false, IsTrue}
+use Rattle.std.proofs.Common.{[], ◌∙◌, sym, subst, true≢false}
 use Rattle.rule_schemes.specs.Said.{IsBefore}
 use Rattle.ordered_readings.specs.FirstTwo.{AreFirst}
 use Rattle.ordered_readings.specs.AnswerView.{answers}

@@ -1,4 +1,4 @@
-use Rattle.std.proofs.Common.{◌≡◌, ◌<◌, ◌≤◌, ◌↔◌, length, get_or, Some, slice_get, slice_range, sym, ap, ◌∙◌, arith, IsTrue}
+use Rattle.std.proofs.Common.{◌≡◌, ◌<◌, ◌↔◌, length, get_or, Some, slice_get, slice_range, sym, ap, ◌∙◌, arith, IsTrue}
 use Rattle.std.specs.Option.{option_copied}
 use Rattle.rule_schemes.specs.Reading.{word}
 use Rattle.binding_terms.proofs.Lists.{get_mapped_or}

@@ -1,4 +1,4 @@
-use Rattle.std.proofs.Common.{◌≡◌, ◌<◌, length, sym, ◌∙◌, true≢false, arith}
+use Rattle.std.proofs.Common.{◌<◌, length, sym, ◌∙◌, true≢false, arith}
 use Rattle.cell_reader.proofs.Tests.{scopes_apart}
 use Rattle.cell_reader.proofs.testing.same_scope.Goals as goal
 
