@@ -1,14 +1,14 @@
 -- The words of known variables, and the variables that they are.
-use Rattle.std.proofs.Common.{◌≡◌, ℕ, suc, ◌+◌, ◌<◌, List, [], ◌∷◌, ◌++◌, length, map, reverse, take, drop, get_or, inl, inr, refl, ap, ◌∙◌, sym, arith, slice_index}
-use Rattle.std.proofs.lemmas.List.{drop_more, take_more, map-append, reverse-append, append_assoc}
+use Rattle.std.proofs.Common.{◌≡◌, ℕ, suc, ◌+◌, ◌<◌, List, [], ◌∷◌, ◌++◌, length, map, reverse, take, drop, get_or, refl, ap, ◌∙◌, sym, arith, slice_index}
+use Rattle.std.proofs.lemmas.List.{drop_more, take_more, map-append, reverse-append}
 use Rattle.binding_terms.specs.Signature.{Signature, binders}
 use Rattle.binding_terms.specs.declared.grammar.Item.{Item}
 use Rattle.binding_terms.specs.declared.grammar.Item.TheVariants.{Word, Slot, Binder}
 use Rattle.scheme_terms.specs.Context.{variables}
 use Rattle.scheme_terms.specs.View.{known_variable}
 use Rattle.scheme_terms.specs.declared.scheme.KnownDecl.{KnownDecl}
-use Rattle.rule_schemes.specs.Reading.{Variable, entry_of, known_words}
-use Rattle.form_cells.specs.View.{meaning, variable, in_scope, scope_words}
+use Rattle.rule_schemes.specs.Reading.{entry_of, known_words}
+use Rattle.form_cells.specs.View.{meaning, variable, in_scope}
 use Rattle.form_cells.specs.declared.variables.Var.{Var}
 
 -- the last of the binders so far
