@@ -1,0 +1,3 @@
+pub mod View
+pub mod Contexts
+pub mod Outside
