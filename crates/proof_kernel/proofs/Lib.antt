@@ -1,1 +1,3 @@
 mod Comparing
+mod Equations
+mod FormEquations

@@ -4,6 +4,7 @@
 mod again;
 mod can_stand;
 mod citing;
+mod equating;
 mod form;
 mod here;
 mod keeping;
