@@ -1,1 +1,2 @@
+mod EndedCases
 mod Comparing

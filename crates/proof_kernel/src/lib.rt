@@ -2,9 +2,11 @@
 #![tactic(auto)]
 
 mod again;
+mod blocks;
 mod can_stand;
 mod citing;
 mod form;
+mod goal;
 mod here;
 mod keeping;
 mod same;
