@@ -36,7 +36,7 @@ ended_case o n t more is =
     ap trees.nones (is ∙ ap (λ k. max o.taken (n - k)) (sym long)) in
     let helds = ap (λ xs. map (option_map held) o.before.held ++ xs) own ∙ sym (more_nothing (map (option_map held) o.before.held) o.taken n) in
     rw due (λ i. record (opened o) {
-        around = record (opened o).around { held = helds i };
-        due = map choice (drop (suc o.done) o.head.named);
-        had = had i;
-      })
+      around = record (opened o).around { held = helds i };
+      due = map choice (drop (suc o.done) o.head.named);
+      had = had i;
+    })

@@ -7,7 +7,6 @@ mod can_stand;
 mod citing;
 mod form;
 mod goal;
-mod growing;
 mod here;
 mod keeping;
 mod proving;

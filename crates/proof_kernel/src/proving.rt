@@ -112,18 +112,6 @@ impl Standing {
         }
     }
 
-    /// The innermost block ends: its forms come in scope.
-    pub fn close(&mut self, alloc: Global) -> Result<(), NoMemory>
-        ensures ok { OnOk result (standing self.new ≡ moves.closed (standing self.old)) }
-        ensures err { OnErr result (standing self.new ≡ standing self.old) }
-    {
-        if let Standing::Between { innermost, .. } = self {
-            innermost.give_forms(alloc)?;
-        }
-        *self = self.take().without_innermost();
-        Ok(())
-    }
-
     fn without_innermost(self) -> Standing
         ensures { standing result ≡ resumed (standing self) }
     {
@@ -132,12 +120,16 @@ impl Standing {
                 theorem,
                 innermost,
                 blocks,
-            } => Standing::Within {
-                theorem,
-                here: innermost.before,
-                last: Last::taking_over(innermost.head.forms),
-                blocks,
-            },
+            } => {
+                let Opened { before, head, .. } = innermost;
+                let SplitHead { forms, .. } = head;
+                Standing::Within {
+                    theorem,
+                    here: before,
+                    last: Last::taking_over(forms),
+                    blocks,
+                }
+            }
             at => at,
         }
     }
@@ -170,7 +162,9 @@ impl Standing {
         ensures err { OnErr result (self.new ≡ self.old) }
     {
         if let Standing::Within {
-            theorem, blocks, ..
+            theorem,
+            blocks,
+            ..
         } = self
         {
             if blocks.len() == 0 {
