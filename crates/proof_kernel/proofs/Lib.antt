@@ -1,3 +1,4 @@
+mod EndedCases
 mod Comparing
 mod Equations
 mod FormEquations

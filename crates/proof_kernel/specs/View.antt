@@ -1,5 +1,5 @@
 -- What is in scope, and the standing of kept steps, as the plain records that they are.
-use Rattle.std.specs.Prelude.{ℕ, map, option_map}
+use Rattle.std.specs.Prelude.{ℕ, ◌++◌, map, option_map, take, drop, reverse}
 use Rattle.scheme_terms.specs.View.{scheme, scheme_context, names}
 use Rattle.rule_schemes.specs.View.{judgment_scheme}
 use Rattle.case_split.specs.declared.choice.Place.{Place}
@@ -104,6 +104,16 @@ abbrev pub subject_form : SubjectForm → choices.SubjectForm
 subject_form (of_form.Judgment j) = choices.on_judgment (judgment_scheme j)
 subject_form (of_form.Scheme ctx s cat) = choices.on_scheme (scheme_context ctx) (scheme s) cat.0
 
+-- what is in scope around the next case of a block: its forms and its cases so far have numbers of nothing
+abbrev pub around : Opened → trees.Here
+around o =
+    record {
+      scope = names o.before.scope;
+      held = map (option_map held) o.before.held ++ trees.nones o.taken;
+      targets = map (option_map scheme) o.before.targets;
+      goal = goal o.goal;
+    }
+
 -- a block that is begun
 abbrev pub opened : Opened → standings.Opened
 opened o =
@@ -111,13 +121,13 @@ opened o =
       before = here o.before;
       head = split_head o.head;
       subject = subject_form o.subject;
-      around = here o.around;
-      due = map choice o.due;
-      had = map choice o.had;
+      around = around o;
+      due = map choice (drop o.done o.head.named);
+      had = map choice (reverse (take o.done o.head.named));
     }
 
 -- where the kept steps stand
 abbrev pub standing : Standing → standings.Standing
 standing (Outside n) = standings.outside n
-standing (Within k h l blocks) = standings.within k (here h) (last l) (map opened blocks)
-standing (Between k o blocks) = standings.between k (opened o) (map opened blocks)
+standing (Within k h l blocks) = standings.within k (here h) (last l) (map opened (reverse blocks.items))
+standing (Between k o blocks) = standings.between k (opened o) (map opened (reverse blocks.items))

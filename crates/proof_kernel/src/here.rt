@@ -7,9 +7,9 @@ use sqlite_items::Items;
 /// A goal: its forms, over so many names of the scope and after them names of its own.
 #[derive(Drop)]
 pub struct Goal {
-    outer: usize,
-    names: Items<MetaDecl>,
-    forms: Items<JScheme>,
+    pub(crate) outer: usize,
+    pub(crate) names: Items<MetaDecl>,
+    pub(crate) forms: Items<JScheme>,
 }
 
 /// A derivation in scope: its form, and its mark against each target.
@@ -26,5 +26,5 @@ pub struct Here {
     pub(crate) scope: Scope,
     pub(crate) held: Items<Option<Held>>,
     pub(crate) targets: Items<Option<Scheme>>,
-    goal: Goal,
+    pub(crate) goal: Goal,
 }

@@ -2,12 +2,15 @@
 #![tactic(auto)]
 
 mod again;
+mod blocks;
 mod can_stand;
 mod citing;
 mod equating;
 mod form;
+mod goal;
 mod here;
 mod keeping;
+mod proving;
 mod same;
 mod standing;
 mod step;

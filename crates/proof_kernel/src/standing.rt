@@ -1,6 +1,6 @@
 // Where the steps that were kept so far stand.
-use crate::here::Here;
-use crate::step::{CaseChoice, SplitHead};
+use crate::here::{Goal, Here};
+use crate::step::SplitHead;
 use binding_terms::CatId;
 use rule_schemes::JScheme;
 use scheme_terms::{SCtx, Scheme};
@@ -25,19 +25,19 @@ pub enum SubjectForm {
     },
 }
 
-/// A block that is begun: what was in scope before it, its head, what it analyses, what is in scope around its next case, the choices that
-/// are still due, and those that had their case, the latest first.
+/// A block that is begun: what was in scope before it, its head, what it analyses, the goal of its cases, how many numbers its forms and
+/// its cases so far took, and how many of its cases are done.
 #[derive(Drop)]
 pub struct Opened {
-    before: Here,
-    head: SplitHead,
-    subject: SubjectForm,
-    around: Here,
-    due: Items<CaseChoice>,
-    had: Items<CaseChoice>,
+    pub(crate) before: Here,
+    pub(crate) head: SplitHead,
+    pub(crate) subject: SubjectForm,
+    pub(crate) goal: Goal,
+    pub(crate) taken: usize,
+    pub(crate) done: usize,
 }
 
-/// After so many theorems; among the steps of a theorem or a case, within the blocks that are begun, the innermost first; or before a case
+/// After so many theorems; among the steps of a theorem or a case, within the blocks that are begun, the outermost first; or before a case
 /// or the end of the innermost block.
 #[derive(Drop)]
 pub enum Standing {
@@ -48,11 +48,11 @@ pub enum Standing {
         theorem: usize,
         here: Here,
         last: Last,
-        blocks: Items<Opened>,
+        blocks: Vec<Opened>,
     },
     Between {
         theorem: usize,
         innermost: Opened,
-        blocks: Items<Opened>,
+        blocks: Vec<Opened>,
     },
 }
