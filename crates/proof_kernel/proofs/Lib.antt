@@ -1,2 +1,3 @@
-mod EndedCases
 mod Comparing
+mod EndedCases
+pub mod GoingOn
