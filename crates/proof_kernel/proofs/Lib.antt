@@ -1,4 +1,5 @@
-mod EndedCases
 mod Comparing
+mod EndedCases
 mod Equations
 mod FormEquations
+pub mod GoingOn

@@ -10,6 +10,7 @@ mod form;
 mod goal;
 mod here;
 mod keeping;
+pub mod laws;
 mod proving;
 mod same;
 mod standing;
