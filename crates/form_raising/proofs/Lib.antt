@@ -1,2 +1,3 @@
 mod Arguments
 mod PlacedForms
+pub mod ReachTests

@@ -3,6 +3,7 @@
 
 mod entries;
 mod forms;
+pub mod laws;
 mod placing;
 mod raising;
 
