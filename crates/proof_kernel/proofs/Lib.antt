@@ -1,3 +1,4 @@
 mod Comparing
 mod EndedCases
 pub mod GoingOn
+mod GrowingHeld

@@ -7,6 +7,7 @@ mod can_stand;
 mod citing;
 mod form;
 mod goal;
+mod growing;
 mod here;
 mod keeping;
 pub mod laws;
