@@ -1,13 +1,16 @@
 -- What is in scope, while it grows by several derivations.
-use Rattle.std.proofs.Common.{◌≡◌, ◌+◌, ◌≤◌, ℕ, List, [], ◌∷◌, ◌++◌, length, take, map, Option, Some, None, option_map, Result, Ok, Err, OnErr, refl, ap, ◌∙◌, sym, append_assoc}
+use Rattle.std.proofs.Common.{◌≡◌, ◌+◌, ◌-◌, ◌≤◌, ℕ, List, [], ◌∷◌, ◌++◌, length, take, map, Option, Some, None, option_map, Result, Ok, Err, OnErr, refl, ap, ◌∙◌, sym, append_assoc, length-append, arith}
 use Rattle.std.proofs.Math.Seq.{take-append_seam}
-use Rattle.std.proofs.lemmas.List.{map-append, length-map, take-map}
+use Rattle.std.proofs.lemmas.List.{map-append, length-map, take-map, length-replicate}
 use Rattle.std.proofs.lemmas.Grind.{replicate_next}
 use Rattle.rule_schemes.specs.Rules.{JudgmentScheme}
 use Rattle.proof_trees.specs.Here as trees
 use Rattle.proof_trees.specs.Here.{holding, unrelated, nones}
 use Rattle.proof_kernel.specs.Growth.{HasGrown}
-use Rattle.proof_kernel.specs.View.{held, here}
+use Rattle.rule_schemes.specs.View.{judgment_scheme}
+use Rattle.proof_trees.specs.Standings.{after_opened}
+use Rattle.proof_kernel.specs.View.{held, here, opened}
+use Rattle.proof_kernel.specs.declared.standing.Opened.{Opened}
 use Rattle.proof_kernel.specs.declared.here.Here.{Here}
 use Rattle.proof_kernel.specs.declared.here.Held.{Held}
 
@@ -49,3 +52,24 @@ shortened old now grown =
     λ i. record (here now) { held = front i } in
     let other : record (here now) { held = (here old).held } ≡ here old = λ i. record (grown.1 i) { held = (here old).held } in
     one ∙ other
+
+-- before a block, its forms with what its cases numbered are what comes in scope at its end
+pub given_forms : (o : Opened) (n : ℕ) → n ≡ o.taken - length o.head.forms →
+    holding (here o.before) (all_unrelated (here o.before) (map judgment_scheme o.head.forms) ++ nones n) ≡ after_opened (opened o)
+given_forms o n is =
+    let hs = (here o.before).held in
+    let long : length (hs ++ nones o.taken) ≡ length hs + o.taken = length-append hs (nones o.taken) ∙ ap (λ k. length hs + k) (length-replicate o.taken None) in
+    let forms : length (map judgment_scheme o.head.forms) ≡ length o.head.forms = length-map o.head.forms judgment_scheme in
+    let same : n ≡ length (hs ++ nones o.taken) - (length hs + length (map judgment_scheme o.head.forms)) = omega (arith, is, long, forms) in
+    ap (λ k. holding (here o.before) (all_unrelated (here o.before) (map judgment_scheme o.head.forms) ++ nones k)) same
+
+pub same_opened : (o : Opened) (b : Here) → here b ≡ here o.before → opened (record o { before = b }) ≡ opened o
+same_opened o b same = λ i. record (opened o) {
+  before = same i;
+  around = record {
+    scope = (same i).scope;
+    held = (same i).held ++ nones o.taken;
+    targets = (same i).targets;
+    goal = (opened o).around.goal;
+  };
+}
