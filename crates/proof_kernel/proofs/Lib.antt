@@ -3,3 +3,4 @@ mod EndedCases
 mod Equations
 mod FormEquations
 pub mod GoingOn
+mod GrowingHeld

@@ -1,14 +1,16 @@
 // Blocks that are begun.
-ghost use Rattle.std.specs.Prelude.{◌≡◌, length, map};
+ghost use Rattle.std.specs.Prelude.{◌≡◌, OnOk, OnErr, length, map};
 ghost use Rattle.rule_schemes.specs.View.{judgment_scheme};
 ghost use Rattle.proof_trees.specs.Here.{goal_of};
-ghost use Rattle.proof_trees.specs.Standings.{opened};
+ghost use Rattle.proof_trees.specs.Standings.{opened, after_opened};
 ghost use Rattle.proof_kernel.specs.Moves.{case_ended};
 ghost use Rattle.proof_kernel.specs.View.{goal as plain_goal, here as plain_here, split_head, subject_form, opened as plain_opened};
 
 use crate::here::{Goal, Here};
 use crate::standing::{Opened, SubjectForm};
 use crate::step::SplitHead;
+use binding_terms::NoMemory;
+use std::alloc::Global;
 
 impl Opened {
     /// A block as it begins, with the goal of its cases.
@@ -36,5 +38,16 @@ impl Opened {
             self.taken = self.taken.max(own);
             self.done += 1;
         }
+    }
+
+    /// Puts its forms in scope before it, under the numbers that they took. Want of memory changes nothing.
+    pub(crate) fn give_forms(&mut self, alloc: Global) -> Result<(), NoMemory>
+        ensures ok { OnOk result (plain_here self.new.before ≡ after_opened (plain_opened self.old)) }
+        ensures head { self.new.head ≡ self.old.head }
+        ensures err { OnErr result (plain_opened self.new ≡ plain_opened self.old) }
+    {
+        let nothing = self.taken.saturating_sub(self.head.forms.len());
+        let forms = self.head.forms.as_slice();
+        self.before.add_all_unrelated(alloc, forms, nothing)
     }
 }

@@ -8,6 +8,7 @@ mod citing;
 mod equating;
 mod form;
 mod goal;
+mod growing;
 mod here;
 mod keeping;
 pub mod laws;

@@ -112,6 +112,27 @@ impl Standing {
         }
     }
 
+    /// The innermost block ends: its forms come in scope. Want of memory changes nothing.
+    pub fn close(&mut self, alloc: Global) -> Result<(), NoMemory>
+        ensures ok { OnOk result (standing self.new ≡ moves.closed (standing self.old)) }
+        ensures err { OnErr result (standing self.new ≡ standing self.old) }
+    {
+        self.give_forms(alloc)?;
+        *self = self.take().without_innermost();
+        Ok(())
+    }
+
+    /// Puts the forms of the innermost block in scope before it.
+    fn give_forms(&mut self, alloc: Global) -> Result<(), NoMemory>
+        ensures ok { OnOk result (resumed (standing self.new) ≡ moves.closed (standing self.old)) }
+        ensures err { OnErr result (standing self.new ≡ standing self.old) }
+    {
+        match self {
+            Standing::Between { innermost, .. } => innermost.give_forms(alloc),
+            _ => Ok(()),
+        }
+    }
+
     fn without_innermost(self) -> Standing
         ensures { standing result ≡ resumed (standing self) }
     {
