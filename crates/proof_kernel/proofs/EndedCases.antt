@@ -1,8 +1,7 @@
 -- A block after one more of its cases.
-use Rattle.std.proofs.Common.{◌≡◌, ◌<◌, ◌+◌, ◌-◌, ℕ, zero, suc, max, List, [], ◌∷◌, ◌++◌, length, take, drop, map, reverse, replicate, Option, None, option_map, refl, ap, ◌∙◌, sym, append_assoc, length-append, arith}
+use Rattle.std.proofs.Common.{◌≡◌, ◌<◌, ◌+◌, ◌-◌, ℕ, zero, suc, max, List, [], ◌∷◌, ◌++◌, length, take, drop, map, reverse, Option, None, option_map, refl, ap, ◌∙◌, sym, append_assoc, length-append, arith}
 use Rattle.std.proofs.lemmas.List.{reverse-append, length-map, length-replicate, replicate-append-replicate}
 use Rattle.proof_trees.specs.Here as trees
-use Rattle.proof_trees.specs.Standings as standings
 use Rattle.proof_kernel.specs.Moves.{case_ended}
 use Rattle.proof_kernel.specs.View.{held, choice, opened}
 use Rattle.proof_kernel.specs.declared.standing.Opened.{Opened}

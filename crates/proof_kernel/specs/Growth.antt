@@ -1,5 +1,5 @@
 -- What private contracts say of what is in scope while it grows.
-use Rattle.std.specs.Prelude.{◌≡◌, ◌<◌, ℕ, List, ◌∷◌, Option, map, length, vec_len, vec_capacity}
+use Rattle.std.specs.Prelude.{◌≡◌, ◌<◌, List, ◌∷◌, Option, map, length, vec_len, vec_capacity}
 use Rattle.rule_schemes.specs.View.{judgment_scheme}
 use Rattle.rule_schemes.specs.declared.rule.JScheme.{JScheme}
 use Rattle.proof_trees.specs.Here as trees
@@ -8,9 +8,8 @@ use Rattle.proof_trees.specs.Goals.{taking_over}
 use Rattle.proof_trees.specs.Standings as standings
 use Rattle.proof_kernel.specs.View.{goal, here}
 use Rattle.proof_kernel.specs.declared.here.Goal.{Goal}
-use Rattle.proof_kernel.specs.declared.here.Here.{Here}
 use Rattle.proof_kernel.specs.declared.standing.Standing.{Standing}
-use Rattle.proof_kernel.specs.declared.standing.Standing.TheVariants.{Outside, Within, Between}
+use Rattle.proof_kernel.specs.declared.standing.Standing.TheVariants.{Within, Between}
 
 -- more is held, and nothing else changed
 abbrev pub HasGrown : trees.Here → trees.Here → Type 0
