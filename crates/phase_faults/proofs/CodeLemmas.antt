@@ -42,7 +42,7 @@ of_rule : {written : List WrittenRule} {th : Theory} {found : Code} {token : Pla
     judged.IsRuleFault written th found token detail → IsCodeOf judgment_codes found
 of_rule (judged.too_many_parameters text is d h n) = inl is
 of_rule (judged.duplicate is d a) = inr (inl is)
-of_rule (judged.of_form text form metas h k n fault) = form_of_rule fault
+of_rule (judged.of_form text form metas root h k n r fault) = form_of_rule fault
 of_rule (judged.other_judgment text rule is d t r e) = inr (inr (inr (inr (inr (inr (inr (inr (inl is))))))))
 of_rule (judged.bad_conclusion text rule is d t r e) = inr (inr (inr (inr (inr (inr (inr (inr (inl is))))))))
 of_rule (judged.no_parameters text is t h u) = inr (inr (inr (inr (inr (inr (inr (inr (inr (inl is)))))))))

@@ -9,6 +9,7 @@ use Rattle.sy_base.specs.declared.fault.Code.{Code}
 use Rattle.sy_base.specs.declared.fault.Code.TheVariants as code
 use Rattle.outline_reader.specs.Plain.{PlainPortion}
 use Rattle.scheme_terms.specs.declared.scheme.MetaDecl.{MetaDecl}
+use Rattle.scheme_terms.specs.declared.scheme.Root.{Root}
 use Rattle.rule_schemes.specs.Reading.{IsSpelling}
 use Rattle.rule_schemes.specs.Refused.{IsFirstUnstrict, AssumeAlike}
 use Rattle.rule_schemes.specs.Rules.{Rule, Theory, HasGoodConclusion}
@@ -17,7 +18,7 @@ use Rattle.user_grammar.specs.Names.{IsAmong}
 use Rattle.user_grammar.specs.Fault.{StandsAt, StandsOutside, before_word, IsBinderWord, IsUnknown, IsWrongInBrackets}
 use Rattle.phase_faults.specs.Written.{WrittenJudgment, WrittenRule, judgments, rules, rule_forms, all_as_read, IsFirstToken, IsDeclaredAgain}
 use Rattle.phase_faults.specs.Telling.{AreNamesOf, IsFirstUntold, IsNinthWord}
-use Rattle.phase_faults.specs.Read.{TOKENS, names_over, part_root, CountsAs, IsJudgedBy}
+use Rattle.phase_faults.specs.Read.{TOKENS, names_over, IsRuleRoot, CountsAs, IsJudgedBy}
 use Rattle.phase_faults.specs.FormFaults.{IsFormFault}
 use Rattle.phase_faults.specs.Placed.{IsFirstMisplaced}
 
@@ -133,9 +134,10 @@ module _ (written : List WrittenRule) (th : Theory) where
     too_many_parameters : (text : WrittenRule) → found ≡ code.TooMany → detail ≡ codes "parameters" →
         Contains written text → IsNinthWord th.sig (rule_forms text) token → IsRuleFault found token detail
     duplicate : found ≡ code.Duplicate → detail ≡ token.text → IsDeclaredAgain (map (λ text. text.name) written) token → IsRuleFault found token detail
-    of_form : (text : WrittenRule) (form : List PlainToken) (metas : List MetaDecl) →
+    of_form : (text : WrittenRule) (form : List PlainToken) (metas : List MetaDecl) (root : Root) →
         Contains written text → Contains (rule_forms text) form → AreNamesOf th.sig (all_as_read (rule_forms text)) metas →
-        IsFormFault th.sig th.judgments (rule_forms text) (names_over (part_root th.sig th.judgments text.declared) metas) form found token detail →
+        IsRuleRoot th.sig th.judgments metas text root →
+        IsFormFault th.sig th.judgments (rule_forms text) (names_over root metas) form found token detail →
         IsRuleFault found token detail
     other_judgment : (text : WrittenRule) (rule : Rule) → found ≡ code.BadConclusion → detail ≡ text.name.text → token ≡ text.name →
         IsRule text rule → suc rule.conclusion.judgment ≢ text.declared → IsRuleFault found token detail

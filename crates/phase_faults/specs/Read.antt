@@ -66,8 +66,7 @@ abbrev pub OccursInRule : ℕ → Rule → Type 0
 OccursInRule m rule = AnyByRecursion (OccursInJudgment m) rule.premises ⊎ OccursInJudgment m rule.conclusion
 
 -- The rule for which a written one stands, whatever else is wrong with it: each of its forms has at most 256 tokens and one reading. Its
--- metavariables are those that stand in the readings, in the order of their first place. Its root is that of the judgment in whose part
--- it stands.
+-- metavariables are those that stand in the readings, in the order of their first place.
 pub record IsReadRule (sig : Signature) (js : List Judgment) (root : Root) (written : WrittenRule) (rule : Rule) : Type 0 where
   pub named : rule.name ≡ written.name.text
   pub unread : List MetaDecl
@@ -77,12 +76,23 @@ pub record IsReadRule (sig : Signature) (js : List Judgment) (root : Root) (writ
   pub unused : AllNumbered (λ m decl. OccursInRule m rule → ⊥) (length rule.metas) unread
   pub reads : AllZip (IsRead sig js (names_over root (rule.metas ++ unread))) (rule_forms written) (rule.premises ++ rule.conclusion ∷ [])
 
--- the root over which a rule of the part of the last of so many judgments stands: the whole context that the judgment assumes, or none
+-- the root over which a rule of the judgment stands: the whole context that the judgment assumes, or none
+abbrev pub judgment_root : Signature → List Judgment → (number : ℕ) → Root
+judgment_root sig js n = rule_root (record { sig = sig; judgments = js; rules = [] }) n
+
+-- the root of a rule of the part of the last of so many judgments
 abbrev pub part_root : Signature → List Judgment → (declared : ℕ) → Root
 part_root sig js zero = Closed
-part_root sig js (suc n) = rule_root (record { sig = sig; judgments = js; rules = [] }) n
+part_root sig js (suc n) = judgment_root sig js n
 
--- the written rule counts as this rule
+-- The root with which the forms of the rule stand: that of the judgment of its conclusion where the conclusion reads, and else that of the part.
+abbrev pub IsRuleRoot : Signature → List Judgment → List MetaDecl → WrittenRule → Root → Type 0
+IsRuleRoot sig js metas written root =
+    ((j : JudgmentScheme) × IsRead sig js (names_over (part_root sig js written.declared) metas) written.conclusion j × (root ≡ judgment_root sig js j.judgment))
+    ⊎ (((j : JudgmentScheme) → IsRead sig js (names_over (part_root sig js written.declared) metas) written.conclusion j → ⊥)
+    × (root ≡ part_root sig js written.declared))
+
+-- The written rule counts as this rule. What its forms read as does not depend on the root, since no variable comes with it.
 abbrev pub CountsAs : Signature → List Judgment → WrittenRule → Rule → Type 0
 CountsAs sig js written rule = IsReadRule sig js (part_root sig js written.declared) written rule
 
