@@ -1,5 +1,5 @@
 -- Schemes become others exactly where their equations hold.
-use Rattle.std.proofs.Common.{◌≡◌, ◌↔◌, ℕ, suc, List, [], ◌∷◌, length, map, refl, arith}
+use Rattle.std.proofs.Common.{◌≡◌, ℕ, List, [], ◌∷◌, length, map, refl, arith}
 use Rattle.std.specs.List.{AllByRecursion}
 use Rattle.binding_terms.proofs.Lists.{cons_head, cons_tail}
 use Rattle.scheme_terms.specs.SchemeTree.{SchemeTree}

@@ -5,7 +5,6 @@ use Rattle.std.proofs.Math.Seq.{take-append_seam, drop-append_seam}
 use Rattle.std.specs.List.{AllByRecursion, AllZip}
 use Rattle.binding_terms.proofs.Lists.{cons_head, cons_tail, all_append, all_front, all_right}
 use Rattle.binding_terms.specs.Signature.{Signature}
-use Rattle.scheme_terms.specs.SchemeTree.{SchemeTree}
 use Rattle.scheme_terms.specs.Forms.{SchemeEntry, SchemeContext, Substitution}
 use Rattle.scheme_terms.specs.Context.{variables}
 use Rattle.scheme_terms.specs.SchemeScope.{entry_variables}

@@ -1,3 +1,4 @@
+mod BeginningValues
 mod Comparing
 mod EndedCases
 mod Equations

@@ -2,6 +2,7 @@
 #![tactic(auto)]
 
 mod again;
+mod beginning;
 mod blocks;
 mod can_stand;
 mod citing;
